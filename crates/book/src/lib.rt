@@ -1,0 +1,7 @@
+// The book: its calls, over any journal and any limit policy.
+pub mod book;
+mod listing;
+
+pub use book::Book;
+pub use book::Moved;
+pub use book::Reading;

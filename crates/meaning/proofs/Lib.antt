@@ -1,0 +1,2 @@
+pub mod Lettered
+pub mod Only

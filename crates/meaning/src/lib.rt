@@ -1,0 +1,35 @@
+// The words of the water book: what is ordered, what is written down, what a call answers.
+pub mod account;
+pub mod content;
+pub mod display;
+pub mod entry;
+pub mod fate;
+pub mod label;
+pub mod limits;
+pub mod opening;
+pub mod order;
+pub mod record;
+pub mod refusal;
+pub mod reservation;
+pub mod side;
+pub mod totals;
+
+pub use account::Account;
+pub use content::Content;
+pub use display::AnswerDisplay;
+pub use display::FateDisplay;
+pub use display::OpeningDisplay;
+pub use display::OrderDisplay;
+pub use entry::Entry;
+pub use fate::Event;
+pub use fate::Fate;
+pub use label::Label;
+pub use opening::Opening;
+pub use order::Action;
+pub use order::Order;
+pub use record::Record;
+pub use refusal::Answer;
+pub use refusal::Refusal;
+pub use reservation::Reservation;
+pub use side::Side;
+pub use totals::Totals;

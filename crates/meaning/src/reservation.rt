@@ -1,0 +1,23 @@
+// Water that was set aside, and what became of it.
+use crate::fate::Fate;
+
+#[derive(Clone, Copy)]
+pub struct Reservation {
+    pub number: u32,
+    pub debit: u32,
+    pub credit: u32,
+    pub amount: u64,
+    // 0 stands for no deadline.
+    pub deadline: u64,
+    pub fate: Fate,
+}
+
+impl Reservation {
+    // Live, with a deadline that has come.
+    pub fn is_due(&self, moment: u64) -> bool {
+        match self.fate {
+            Fate::Live => self.deadline != 0 && self.deadline <= moment,
+            Fate::Posted | Fate::Voided | Fate::Lapsed => false,
+        }
+    }
+}

@@ -1,0 +1,74 @@
+// One side of an account, debits or credits: what is pending and what is posted.
+ghost use mathlib.Core.Path.{_≡_};
+ghost use mathlib.Core.Bool.{Bool, cond};
+ghost use Prim.Native.Nat.{ℕ, _+_, _-_, _^_, _<_, min};
+ghost use lib.Dec.{ltb};
+use crate::limits::TOP;
+
+#[derive(Clone, Copy)]
+pub struct Side {
+    pending: u64,
+    posted: u64,
+    ghost fits: { pending + posted < 2 ^ 56 },
+}
+
+impl Side {
+    pub fn zero() -> Side
+        ensures pending { λ r. ⌜ r .pending ≡ 0 ⌝ }
+        ensures posted { λ r. ⌜ r .posted ≡ 0 ⌝ }
+    {
+        Side {
+            pending: 0,
+            posted: 0,
+        }
+    }
+
+    pub fn pending(&self) -> u64
+        ensures { λ r. ⌜ r ≡ now (self .entry) .pending ⌝ }
+    {
+        self.pending
+    }
+
+    pub fn posted(&self) -> u64
+        ensures { λ r. ⌜ r ≡ now (self .entry) .posted ⌝ }
+    {
+        self.posted
+    }
+
+    // Whether the side stays within the top with so much more.
+    pub fn takes(&self, amount: u64) -> bool
+        ensures { λ r. ⌜ r ≡ ltb (now (self .entry) .pending + now (self .entry) .posted + amount) (2 ^ 56) ⌝ }
+    {
+        amount <= TOP - (self.pending + self.posted)
+    }
+
+    // Sets an amount aside, where the side takes it.
+    pub fn reserve(&mut self, amount: u64)
+        ensures pending { λ _. ⌜ now (self .exit) .pending ≡ now (self .entry) .pending + cond (ltb (now (self .entry) .pending + now (self .entry) .posted + amount) (2 ^ 56)) amount 0 ⌝ }
+        ensures posted { λ _. ⌜ now (self .exit) .posted ≡ now (self .entry) .posted ⌝ }
+    {
+        if self.takes(amount) {
+            self.pending += amount;
+        }
+    }
+
+    // Adds an amount for good, where the side takes it.
+    pub fn add(&mut self, amount: u64)
+        ensures pending { λ _. ⌜ now (self .exit) .pending ≡ now (self .entry) .pending ⌝ }
+        ensures posted { λ _. ⌜ now (self .exit) .posted ≡ now (self .entry) .posted + cond (ltb (now (self .entry) .pending + now (self .entry) .posted + amount) (2 ^ 56)) amount 0 ⌝ }
+    {
+        if self.takes(amount) {
+            self.posted += amount;
+        }
+    }
+
+    // Takes an amount out of what is pending and posts a part of it; never more than is there.
+    pub fn release(&mut self, amount: u64, part: u64)
+        ensures pending { λ _. ⌜ now (self .exit) .pending ≡ now (self .entry) .pending - amount ⌝ }
+        ensures posted { λ _. ⌜ now (self .exit) .posted ≡ now (self .entry) .posted + min part (min amount (now (self .entry) .pending)) ⌝ }
+    {
+        let freed = amount.min(self.pending);
+        self.pending -= freed;
+        self.posted += part.min(freed);
+    }
+}
