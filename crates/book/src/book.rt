@@ -2,6 +2,7 @@
 use balances::Balances;
 use journal::Journal;
 use meaning::Account;
+use meaning::Reading;
 use meaning::Refusal;
 use meaning::Reservation;
 use policy::Policy;
@@ -12,21 +13,6 @@ mod legs;
 mod moving;
 mod opening;
 mod reporting;
-
-// How the reading of the journal ended at creation.
-#[derive(Clone, Copy)]
-pub enum Reading {
-    Through,
-    // The entry at this place was refused.
-    Stopped { place: u64, refusal: Refusal },
-}
-
-// What a move did: how many reservations lapsed, and the earliest live deadline, or 0.
-#[derive(Clone, Copy)]
-pub struct Moved {
-    pub lapsed: u64,
-    pub next_deadline: u64,
-}
 
 #[derive(Drop)]
 pub struct Book<J: Journal, P: Policy> {

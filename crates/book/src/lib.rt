@@ -3,5 +3,3 @@ pub mod book;
 mod listing;
 
 pub use book::Book;
-pub use book::Moved;
-pub use book::Reading;

@@ -1,5 +1,16 @@
+pub mod Basics
 pub mod Numbers
-pub mod Fates
 pub mod Labels
 pub mod Sound
 pub mod Made
+pub mod Raws
+pub mod Fates
+pub mod Given
+pub mod Rules
+pub mod Policies
+pub mod Batches
+pub mod Moves
+pub mod Reading
+pub mod Questions
+pub mod Listing
+pub mod Cases

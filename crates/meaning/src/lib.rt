@@ -1,5 +1,7 @@
 // The words of the water book: what is ordered, what is written down, what a call answers.
 pub mod account;
+pub mod answers;
+pub mod cases;
 pub mod content;
 pub mod display;
 pub mod entry;
@@ -8,6 +10,7 @@ pub mod label;
 pub mod limits;
 pub mod opening;
 pub mod order;
+pub mod raw;
 pub mod record;
 pub mod refusal;
 pub mod reservation;
@@ -15,6 +18,8 @@ pub mod side;
 pub mod totals;
 
 pub use account::Account;
+pub use answers::Moved;
+pub use answers::Reading;
 pub use content::Content;
 pub use display::AnswerDisplay;
 pub use display::FateDisplay;
@@ -27,6 +32,7 @@ pub use label::Label;
 pub use opening::Opening;
 pub use order::Action;
 pub use order::Order;
+pub use raw::Raw;
 pub use record::Record;
 pub use refusal::Answer;
 pub use refusal::Refusal;

@@ -1,8 +1,8 @@
 // Moving the book's moment on.
 use super::Book;
-use super::Moved;
 use journal::Journal;
 use meaning::Event;
+use meaning::Moved;
 use meaning::Refusal;
 use meaning::limits::LAST_MOMENT;
 use policy::Policy;

@@ -1,0 +1,9 @@
+pub mod Finds
+pub mod Passes
+pub mod Numbered
+pub mod Totals
+pub mod Once
+pub mod Known
+pub mod Balanced
+pub mod Admitted
+pub mod Lawful

@@ -1,0 +1,20 @@
+-- What the four policies admit.
+use mathlib.Core.Bool.{Bool, true, false, cond}
+use Prim.Native.Nat.{ℕ, _+_}
+use lib.Dec.{leb, ltb}
+use Rattle.meaning.specs.Rules.{Policy}
+
+abbrev pub open-to-all : Policy
+open-to-all class limit dp dq cp cq = true
+
+-- what is drawn, pending or posted, stays within what has come in and the limit
+abbrev pub floor : Policy
+floor class limit dp dq cp cq = leb (dp + dq) (cq + limit)
+
+-- what comes in, pending or posted, stays within what was drawn and the limit
+abbrev pub ceiling : Policy
+ceiling class limit dp dq cp cq = leb (cp + cq) (dq + limit)
+
+-- one policy below a class, another from it on
+abbrev pub byClass : ℕ → Policy → Policy → Policy
+byClass from below above class limit dp dq cp cq = cond (ltb class from) (below class limit dp dq cp cq) (above class limit dp dq cp cq)
