@@ -15,7 +15,7 @@ struct Key {
 fn key_of(account: &Account) -> Key {
     Key {
         ledger: account.ledger,
-        label: account.label.code(),
+        label: account.label.code,
         number: account.number,
     }
 }
@@ -43,11 +43,10 @@ impl Sums {
 
     fn add(&mut self, totals: &Totals) {
         self.accounts = self.accounts.saturating_add(1);
-        self.debits_pending = self.debits_pending.saturating_add(totals.debits.pending());
-        self.debits_posted = self.debits_posted.saturating_add(totals.debits.posted());
-        self.credits_pending = self.credits_pending
-            .saturating_add(totals.credits.pending());
-        self.credits_posted = self.credits_posted.saturating_add(totals.credits.posted());
+        self.debits_pending = self.debits_pending.saturating_add(totals.debits.pending);
+        self.debits_posted = self.debits_posted.saturating_add(totals.debits.posted);
+        self.credits_pending = self.credits_pending.saturating_add(totals.credits.pending);
+        self.credits_posted = self.credits_posted.saturating_add(totals.credits.posted);
     }
 }
 
@@ -110,10 +109,10 @@ fn put_account(out: &mut [u8], at: usize, account: &Account) -> usize {
     let at = put_byte(out, at, b' ');
     let at = put_label(out, at, &account.label);
     let at = put_field(out, at, u64::from(account.number));
-    let at = put_field(out, at, account.totals.debits.pending());
-    let at = put_field(out, at, account.totals.debits.posted());
-    let at = put_field(out, at, account.totals.credits.pending());
-    let at = put_field(out, at, account.totals.credits.posted());
+    let at = put_field(out, at, account.totals.debits.pending);
+    let at = put_field(out, at, account.totals.debits.posted);
+    let at = put_field(out, at, account.totals.credits.pending);
+    let at = put_field(out, at, account.totals.credits.posted);
     put_byte(out, at, b'\n')
 }
 
@@ -139,7 +138,7 @@ fn put_field(out: &mut [u8], at: usize, number: u64) -> usize {
 // A label without its filling.
 fn put_label(out: &mut [u8], at: usize, label: &Label) -> usize {
     let mut at = at;
-    for byte in label.code().to_be_bytes() {
+    for byte in label.code.to_be_bytes() {
         if byte != b' ' {
             at = put_byte(out, at, byte);
         }

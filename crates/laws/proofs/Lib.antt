@@ -7,3 +7,6 @@ pub mod Known
 pub mod Balanced
 pub mod Admitted
 pub mod Lawful
+pub mod Fates
+pub mod Writings
+pub mod Fits

@@ -12,7 +12,7 @@ use Rattle.meaning.specs.declared.fate.Fate.the-variants.{Live}
 use Rattle.meaning.specs.Basics.{at}
 use Rattle.meaning.specs.Given.{Journal, Reserved, reservations, theReservation, fate, isLive, ended, Side, pick, through, pending, Movement, postIn, movements, posted, highest}
 use Rattle.meaning.specs.Rules.{Policy, numberRefused, refused}
-use Rattle.laws.specs.Steps.{Reads, Standing, Step, falling, Stepwise}
+use Rattle.laws.specs.Steps.{Reads, Alive, Step, falling, Stepwise}
 use Rattle.laws.proofs.Finds.{Distinct, sum-add, sum-less, find-key}
 use Rattle.laws.proofs.Passes.{both-none, number-above, post-open, void-open}
 use Rattle.laws.proofs.Numbered.{key, entry, Numbered, numbered}

@@ -1,4 +1,4 @@
--- Words on lists that the definitions share: sums, searches, filters and an order.
+-- Words on lists that the definitions share: sums, look-ups, filters and an order.
 use mathlib.Core.List.{List, [], _∷_}
 use mathlib.Core.Bool.{Bool, true, false, cond}
 use Prim.Native.Nat.{ℕ, _+_}

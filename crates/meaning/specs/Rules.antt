@@ -32,8 +32,8 @@ abbrev pub isTaken : Option Opening → Bool
 isTaken None = false
 isTaken (Some A) = true
 
-abbrev pub openingRefused : Policy → Journal → (full : Bool) → Opening → Option Refusal
-openingRefused policy J full A = firstOf
+abbrev pub openingChecks : Policy → Journal → (full : Bool) → Opening → List (Bool × Refusal)
+openingChecks policy J full A =
     ((eqb (A .number) 0 || isTaken (theAccount J (A .number)), AccountNumber)
     ∷ (eqb (A .ledger) 0, Ledger)
     ∷ (ltb top (A .limit), Limit)
@@ -42,6 +42,9 @@ openingRefused policy J full A = firstOf
     ∷ (full, JournalFull)
     ∷ (not (policy (A .class) (A .limit) 0 0 0 0), AccountNotAdmitted)
     ∷ [])
+
+abbrev pub openingRefused : Policy → Journal → (full : Bool) → Opening → Option Refusal
+openingRefused policy J full A = firstOf (openingChecks policy J full A)
 
 module _ (policy : Policy) (J : Journal) (T : ℕ) where
   abbrev pub numberRefused : ℕ → Option Refusal

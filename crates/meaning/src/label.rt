@@ -8,6 +8,6 @@ pub mod text;
 // 1 to 8 letters, digits or hyphens, filled to 8 with spaces, as one number, the first byte highest.
 #[derive(Clone, Copy)]
 pub struct Label {
-    code: u64,
+    pub code: u64,
     ghost ok: { isLabel code ≡ true },
 }

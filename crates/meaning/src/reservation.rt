@@ -1,4 +1,7 @@
 // Water that was set aside, and what became of it.
+ghost use mathlib.Core.Path.{_≡_};
+ghost use mathlib.Core.Bool.{_&&_};
+ghost use Rattle.meaning.specs.Given.{due, isLive};
 use crate::fate::Fate;
 
 #[derive(Clone, Copy)]
@@ -14,7 +17,9 @@ pub struct Reservation {
 
 impl Reservation {
     // Live, with a deadline that has come.
-    pub fn is_due(&self, moment: u64) -> bool {
+    pub fn is_due(&self, moment: u64) -> bool
+        ensures { λ r. ⌜ r ≡ (isLive (now (self .entry) .fate) && due (now (self .entry) .deadline) moment) ⌝ }
+    {
         match self.fate {
             Fate::Live => self.deadline != 0 && self.deadline <= moment,
             Fate::Posted | Fate::Voided | Fate::Lapsed => false,

@@ -7,8 +7,8 @@ use crate::limits::TOP;
 
 #[derive(Clone, Copy)]
 pub struct Side {
-    pending: u64,
-    posted: u64,
+    pub pending: u64,
+    pub posted: u64,
     ghost fits: { pending + posted < 2 ^ 56 },
 }
 
@@ -21,18 +21,6 @@ impl Side {
             pending: 0,
             posted: 0,
         }
-    }
-
-    pub fn pending(&self) -> u64
-        ensures { λ r. ⌜ r ≡ now (self .entry) .pending ⌝ }
-    {
-        self.pending
-    }
-
-    pub fn posted(&self) -> u64
-        ensures { λ r. ⌜ r ≡ now (self .entry) .posted ⌝ }
-    {
-        self.posted
     }
 
     // Whether the side stays within the top with so much more.

@@ -5,8 +5,7 @@ use meaning::Totals;
 
 // Whether all of one side stays within what is posted on the other and a limit.
 fn covers(drawn: &Side, posted: u64, limit: u64) -> bool {
-    u128::from(drawn.pending()) + u128::from(drawn.posted())
-        <= u128::from(posted) + u128::from(limit)
+    u128::from(drawn.pending) + u128::from(drawn.posted) <= u128::from(posted) + u128::from(limit)
 }
 
 // Admits everything.
@@ -25,7 +24,7 @@ pub struct Floor;
 
 pub impl Policy for Floor as FloorPolicy {
     fn admits(&self, _class: u8, limit: u64, totals: &Totals) -> bool {
-        covers(&totals.debits, totals.credits.posted(), limit)
+        covers(&totals.debits, totals.credits.posted, limit)
     }
 }
 
@@ -35,7 +34,7 @@ pub struct Ceiling;
 
 pub impl Policy for Ceiling as CeilingPolicy {
     fn admits(&self, _class: u8, limit: u64, totals: &Totals) -> bool {
-        covers(&totals.credits, totals.debits.posted(), limit)
+        covers(&totals.credits, totals.debits.posted, limit)
     }
 }
 

@@ -140,7 +140,7 @@ fn open<J: Journal, P: Policy>(
     name: &str,
 ) -> io::Result<()> {
     let label = match Label::parse(name) {
-        Some(label) => label.code(),
+        Some(label) => label.code,
         None => 0,
     };
     let opening = Opening {

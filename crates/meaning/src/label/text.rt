@@ -1,8 +1,9 @@
 // Labels from numbers and from text.
 ghost use mathlib.Core.Path.{_≡_};
 ghost use mathlib.Core.Bool.{Bool, true, false};
-ghost use Rattle.meaning.specs.Labels.{letter, filling, lettered, isLabel};
-ghost use Rattle.meaning.specs.Made.{labelOf};
+ghost use lib.ListN.{take};
+ghost use Rattle.meaning.specs.Labels.{letter, filling, lettered, isLabel, filled};
+ghost use Rattle.meaning.specs.Made.{labelOf, labelNamed};
 use super::Label;
 
 fn is_letter(byte: u8) -> bool
@@ -43,6 +44,16 @@ pub fn is_label(code: u64) -> bool
     is_letter(bytes[0]) && is_lettered(&bytes[1..8])
 }
 
+// The first eight bytes of a text, filled with spaces where there are fewer.
+fn fill(text: &[u8]) -> [u8; 8]
+    ensures { λ r. ⌜ r ≡ filled (take 8 (now (text .entry))) ⌝ }
+{
+    let mut bytes = [b' '; 8];
+    let len = text.len().min(8);
+    bytes[0..len].copy_from_slice(&text[0..len]);
+    bytes
+}
+
 impl Label {
     pub fn new(code: u64) -> Option<Label>
         ensures { λ r. ⌜ r ≡ labelOf code ⌝ }
@@ -55,26 +66,22 @@ impl Label {
     }
 
     // The label of a text of at most 8 bytes.
-    pub fn parse(text: &str) -> Option<Label> {
+    pub fn parse(text: &str) -> Option<Label>
+        ensures { λ r. ⌜ r ≡ labelNamed (now (text .entry)) ⌝ }
+    {
         let bytes = text.as_bytes();
         if bytes.len() > 8 {
             return None;
         }
-        let mut filled = [b' '; 8];
-        filled[0..bytes.len()].copy_from_slice(bytes);
-        Label::new(u64::from_be_bytes(filled))
+        Label::new(u64::from_be_bytes(fill(bytes)))
     }
 
     // Stands in a table's place that holds no account yet.
-    pub fn unused() -> Label {
+    pub fn unused() -> Label
+        ensures { λ r. ⌜ r .code ≡ 0x2d20_2020_2020_2020 ⌝ }
+    {
         Label {
             code: 0x2d20_2020_2020_2020,
         }
-    }
-
-    pub fn code(&self) -> u64
-        ensures { λ r. ⌜ r ≡ now (self .entry) .code ⌝ }
-    {
-        self.code
     }
 }
