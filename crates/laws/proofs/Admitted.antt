@@ -13,7 +13,8 @@ use Rattle.meaning.specs.Basics.{at, find}
 use Rattle.meaning.specs.Given.{Journal, Reserved, accounts, reservations, theAccount, fate, isLive, due, Side, debits, credits, pending, Movement, movements, posted, latest}
 use Rattle.meaning.specs.Rules.{Policy, numberRefused, amountRefused, partiesRefused, refused}
 use Rattle.laws.specs.Steps.{Reads, falling}
-use Rattle.laws.specs.Kept.{Holds, Admitted, Lawful}
+use Rattle.meaning.specs.Policies.{Lawful}
+use Rattle.laws.specs.Kept.{Holds, Admitted}
 use Rattle.laws.proofs.Finds.{find-key}
 use Rattle.laws.proofs.Passes.{both-none, Moves, parties-known, opening-passes, reads-prefix, reads-rules, reads-moment}
 use Rattle.laws.proofs.Numbered.{entry, Numbered, numbered}

@@ -6,7 +6,6 @@ pub mod Once
 pub mod Known
 pub mod Balanced
 pub mod Admitted
-pub mod Lawful
 pub mod Fates
 pub mod Writings
 pub mod Fits

@@ -71,8 +71,3 @@ pub record Holds (policy : Policy) (A : Opening) (dp dq cp cq : ℕ) : Type 0 wh
 abbrev pub Admitted : Policy → Journal → ℕ → Type 0
 Admitted policy J T =
     (a : ℕ) (A : Opening) → theAccount J a ≡ Some A → Holds policy A (pending J T debits a) (posted J debits a) (pending J T credits a) (posted J credits a)
-
--- the two laws of a policy: what is pending may go, and as much of it or less be posted
-pub record Lawful (policy : Policy) : Type 0 where
-  pub debit-law : (k m dp dq cp cq x y : ℕ) → policy k m dp dq cp cq ≡ true → y ≤ x → x ≤ dp → policy k m (dp - x) (dq + y) cp cq ≡ true
-  pub credit-law : (k m dp dq cp cq x y : ℕ) → policy k m dp dq cp cq ≡ true → y ≤ x → x ≤ cp → policy k m dp dq (cp - x) (cq + y) ≡ true

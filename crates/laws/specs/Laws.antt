@@ -13,9 +13,9 @@ use Rattle.meaning.specs.Given.{Journal, Reserved, latest}
 use Rattle.meaning.specs.Rules.{Policy, openingRefused, openingWrites}
 use Rattle.meaning.specs.Batches.{grown, batch}
 use Rattle.meaning.specs.Reading.{reading}
-use Rattle.meaning.specs.Policies.{open-to-all, floor, ceiling, byClass}
+use Rattle.meaning.specs.Policies.{Lawful}
 use Rattle.laws.specs.Steps.{Reads, Stepwise, Fates-go-on, Ready}
-use Rattle.laws.specs.Kept.{Once, Balanced, Admitted, Lawful}
+use Rattle.laws.specs.Kept.{Once, Balanced, Admitted}
 
 -- the entries before the last read through by themselves
 abbrev pub Prefix-reads : Type 0
@@ -36,12 +36,6 @@ Ledgers-balance = (policy : Policy) (J : Journal) → Reads policy J → (T : �
 
 abbrev pub Accounts-are-admitted : Type 0
 Accounts-are-admitted = (policy : Policy) → Lawful policy → (J : Journal) → Reads policy J → (T : ℕ) → latest J ≤ T → Admitted policy J T
-
-pub record Policies-are-lawful : Type 0 where
-  pub by-open : Lawful open-to-all
-  pub by-floor : Lawful floor
-  pub by-ceiling : Lawful ceiling
-  pub by-class : (from : ℕ) (below above : Policy) → Lawful below → Lawful above → Lawful (byClass from below above)
 
 -- an empty journal is read through, and what calls write goes on being read through
 pub record Writings-read (policy : Policy) : Type 0 where

@@ -4,7 +4,7 @@ ghost use mathlib.Core.List.{List};
 ghost use Rattle.meaning.specs.declared.order.Order.{Order};
 ghost use Rattle.meaning.specs.Given.{Journal};
 ghost use Rattle.meaning.specs.Rules.{Policy};
-ghost use Rattle.laws.specs.Laws.{Prefix-reads, Totals-step, Fates-step, Closed-at-most-once, Ledgers-balance, Accounts-are-admitted, Policies-are-lawful, Writings-read, Batches-fit};
+ghost use Rattle.laws.specs.Laws.{Prefix-reads, Totals-step, Fates-step, Closed-at-most-once, Ledgers-balance, Accounts-are-admitted, Writings-read, Batches-fit};
 
 // How many laws there are.
 pub fn laws_hold() -> u8
@@ -14,9 +14,8 @@ pub fn laws_hold() -> u8
     ensures once { λ _. ⌜ Closed-at-most-once ⌝ }
     ensures balance { λ _. ⌜ Ledgers-balance ⌝ }
     ensures admitted { λ _. ⌜ Accounts-are-admitted ⌝ }
-    ensures lawful { λ _. ⌜ Policies-are-lawful ⌝ }
     ensures writings { λ _. ⌜ ((policy : Policy) → Writings-read policy) ⌝ }
     ensures fits { λ _. ⌜ ((policy : Policy) (J : Journal) (T spare : ℕ) (os : List Order) → Batches-fit policy J T spare os) ⌝ }
 {
-    9
+    8
 }

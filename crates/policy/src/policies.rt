@@ -1,10 +1,16 @@
 // The four policies. Sums are taken at 128 bits, so none overflows.
+ghost use mathlib.Core.Path.{_≡_};
+ghost use Prim.Native.Nat.{_+_};
+ghost use lib.Dec.{leb};
+ghost use Rattle.meaning.specs.Policies.{open-to-all, floor, ceiling, byClass};
 use crate::policy::Policy;
 use meaning::Side;
 use meaning::Totals;
 
 // Whether all of one side stays within what is posted on the other and a limit.
-fn covers(drawn: &Side, posted: u64, limit: u64) -> bool {
+fn covers(drawn: &Side, posted: u64, limit: u64) -> bool
+    ensures { λ r. ⌜ r ≡ leb (now (drawn .entry) .pending + now (drawn .entry) .posted) (posted + limit) ⌝ }
+{
     u128::from(drawn.pending) + u128::from(drawn.posted) <= u128::from(posted) + u128::from(limit)
 }
 
@@ -13,6 +19,8 @@ fn covers(drawn: &Side, posted: u64, limit: u64) -> bool {
 pub struct Open;
 
 pub impl Policy for Open as OpenPolicy {
+    ghost admits = { λ _. open-to-all };
+
     fn admits(&self, _class: u8, _limit: u64, _totals: &Totals) -> bool {
         true
     }
@@ -23,6 +31,8 @@ pub impl Policy for Open as OpenPolicy {
 pub struct Floor;
 
 pub impl Policy for Floor as FloorPolicy {
+    ghost admits = { λ _. floor };
+
     fn admits(&self, _class: u8, limit: u64, totals: &Totals) -> bool {
         covers(&totals.debits, totals.credits.posted, limit)
     }
@@ -33,6 +43,8 @@ pub impl Policy for Floor as FloorPolicy {
 pub struct Ceiling;
 
 pub impl Policy for Ceiling as CeilingPolicy {
+    ghost admits = { λ _. ceiling };
+
     fn admits(&self, _class: u8, limit: u64, totals: &Totals) -> bool {
         covers(&totals.credits, totals.debits.posted, limit)
     }
@@ -47,6 +59,8 @@ pub struct ByClass<P: Policy, Q: Policy> {
 }
 
 pub impl<P: Policy, Q: Policy> Policy for ByClass<P, Q> as ByClassPolicy {
+    ghost admits = { λ b. byClass (b .class) (P·Policy .admits (b .below)) (Q·Policy .admits (b .from)) };
+
     fn admits(&self, class: u8, limit: u64, totals: &Totals) -> bool {
         if class < self.class {
             self.below.admits(class, limit, totals)

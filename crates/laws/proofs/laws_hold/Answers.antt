@@ -5,7 +5,6 @@ use Rattle.laws.proofs.Fates.{fates-go-on}
 use Rattle.laws.proofs.Once.{once}
 use Rattle.laws.proofs.Balanced.{balanced}
 use Rattle.laws.proofs.Admitted.{admitted}
-use Rattle.laws.proofs.Lawful.{lawful}
 use Rattle.laws.proofs.Writings.{opening-read, batch-read}
 use Rattle.laws.proofs.Fits.{batch-fits}
 use Rattle.laws.proofs.laws_hold.Needs as need
@@ -18,7 +17,6 @@ returns c = record {
   once = once;
   balance = balanced;
   admitted = λ policy law. admitted policy law;
-  lawful = lawful;
   writings = λ policy. record { by-nothing = refl; by-opening = opening-read policy; by-batch = λ J T spare os. batch-read policy T J spare os };
   fits = batch-fits;
 }
