@@ -1,0 +1,10 @@
+pub mod Fronts
+pub mod Shifts
+pub mod Places
+pub mod Orderly
+pub mod Inserts
+pub mod Removals
+pub mod Filtered
+pub mod Splitting
+pub mod Keyed
+pub mod Lawfully
