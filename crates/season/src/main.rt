@@ -1,8 +1,8 @@
 // A season of one dam: accounts are opened, water is moved, set aside, posted, voided and left to lapse.
 use book::Book;
 use journal::Journal;
-use journal::Roll;
-use journal::RollJournal;
+use journal::Strip;
+use journal::StripJournal;
 use meaning::Action;
 use meaning::Answer;
 use meaning::AnswerDisplay;
@@ -33,6 +33,9 @@ const USER: u8 = 2;
 
 const BATCH: usize = 8;
 
+// Room for a version byte and 40 records.
+const MEMORY: usize = 1921;
+
 const DAM: u32 = 1;
 
 const MILL: u32 = 2;
@@ -45,7 +48,8 @@ fn main(rt: LibcRuntime) -> io::Result<()> {
         class: USER,
         from: Floor,
     };
-    let mut book = Book::create(Roll::new(), policy);
+    let mut memory = [0u8; MEMORY];
+    let mut book = Book::create(Strip::make(&mut memory, 0), policy);
     open(&rt, &mut book, DAM, SOURCE, "DAM")?;
     open(&rt, &mut book, MILL, USER, "MILL")?;
     open(&rt, &mut book, FARM, USER, "FARM")?;
@@ -54,7 +58,10 @@ fn main(rt: LibcRuntime) -> io::Result<()> {
     for number in [2, 4, 6] {
         show_fate(&rt, &book, number)?;
     }
-    report(&rt, &book)
+    report(&rt, &book)?;
+    let (strip, _) = book.close();
+    let used = strip.used();
+    show_bytes(&rt, strip.give_back(), used)
 }
 
 // The mill is filled; a reservation is posted in part, and one is voided.
@@ -218,6 +225,18 @@ fn report<J: Journal, P: Policy>(rt: &LibcRuntime, book: &Book<J, P>) -> io::Res
         Ok(len) => rt.stdout().write_all(&buffer[0..len.min(1024)]),
         Err(refusal) => show_refusal(rt, "report", refusal),
     }
+}
+
+// Prints the bytes of a strip that are in use: the version, and then each record on a line of its own.
+fn show_bytes(rt: &LibcRuntime, memory: &[u8], used: usize) -> io::Result<()> {
+    println!(rt, "strip: {used} bytes used")?;
+    for (i, byte) in memory.iter().take(used).enumerate() {
+        print!(rt, "{byte:02x}")?;
+        if i % 48 == 0 {
+            println!(rt, "")?;
+        }
+    }
+    Ok(())
 }
 
 fn show_refusal(rt: &LibcRuntime, call: &str, refusal: Refusal) -> io::Result<()> {
