@@ -1,18 +1,35 @@
-// The plain tables, and what stands in them.
+// The plain tables. Beside the structs stands nothing that names them in specs/.
 ghost use mathlib.Core.Path.{_≡_};
-ghost use Prim.Native.Nat.{_<_, _≤_};
+ghost use Prim.Native.Nat.{_≤_};
 ghost use lib.ListN.{length};
+use crate::queue::Queue;
+use crate::report::Report;
 use meaning::Account;
-use meaning::Fate;
-use meaning::Label;
 use meaning::Reservation;
-use meaning::Totals;
 use meaning::limits::ACCOUNTS;
+use meaning::limits::LEGS;
 use meaning::limits::RESERVATIONS;
 
-mod accounts;
+pub(crate) mod judging;
+mod lapses;
 mod legs;
-mod reservations;
+mod opening;
+mod places;
+mod rows;
+mod undoing;
+
+// What a leg wrote over, so that it can be put back.
+#[derive(Clone, Copy)]
+pub struct Undo {
+    debit: usize,
+    debit_was: Account,
+    credit: usize,
+    credit_was: Account,
+    slot: usize,
+    slot_was: Reservation,
+    reserved_was: usize,
+    highest_was: u32,
+}
 
 #[derive(Clone, Copy)]
 pub struct Balances {
@@ -21,48 +38,11 @@ pub struct Balances {
     reservations: [Reservation; RESERVATIONS],
     reserved: usize,
     highest: u32,
-    ghost long: { (length accounts ≡ 64) × (length reservations ≡ 256) },
-    ghost fits: { (opened ≤ 64) × (reserved ≤ 256) },
-}
-
-// The places of a debit and a credit account.
-#[derive(Clone, Copy)]
-pub struct Parties {
-    debit: usize,
-    credit: usize,
-    ghost within: { (debit < 64) × (credit < 64) },
-}
-
-impl Balances {
-    // No accounts, no reservations, no order taken.
-    pub fn new() -> Balances {
-        let account = Account {
-            number: 0,
-            ledger: 0,
-            class: 0,
-            limit: 0,
-            label: Label::unused(),
-            totals: Totals::zero(),
-        };
-        let reservation = Reservation {
-            number: 0,
-            debit: 0,
-            credit: 0,
-            amount: 0,
-            deadline: 0,
-            fate: Fate::Live,
-        };
-        Balances {
-            accounts: [account; ACCOUNTS],
-            opened: 0,
-            reservations: [reservation; RESERVATIONS],
-            reserved: 0,
-            highest: 0,
-        }
-    }
-
-    // The highest order number taken.
-    pub fn highest(&self) -> u32 {
-        self.highest
-    }
+    queue: Queue,
+    report: Report,
+    undo: [Undo; LEGS],
+    legs: usize,
+    queue_was: Queue,
+    ghost long: { (length accounts ≡ 64) × (length reservations ≡ 256) × (length undo ≡ 16) },
+    ghost fits: { (opened ≤ 64) × (reserved ≤ 256) × (legs ≤ 16) },
 }

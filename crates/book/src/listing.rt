@@ -4,22 +4,6 @@ use meaning::Account;
 use meaning::Label;
 use meaning::Totals;
 
-// By ledger, then label, then number.
-#[derive(Clone, Copy, PartialEq, PartialOrd)]
-struct Key {
-    ledger: u16,
-    label: u64,
-    number: u32,
-}
-
-fn key_of(account: &Account) -> Key {
-    Key {
-        ledger: account.ledger,
-        label: account.label.code,
-        number: account.number,
-    }
-}
-
 // The sums of a ledger's accounts.
 #[derive(Clone, Copy)]
 struct Sums {
@@ -54,53 +38,25 @@ impl Sums {
 pub fn write_listing(balances: &Balances, out: &mut [u8]) -> usize {
     let mut at = 0;
     let mut sums = Sums::zero();
-    let mut last: Option<Account> = None;
-    for _ in 0..balances.opened() {
-        if let Some(account) = next_account(balances, &last) {
-            if let Some(before) = last {
-                if before.ledger != account.ledger {
-                    at = put_sums(out, at, before.ledger, &sums);
-                    sums = Sums::zero();
-                }
+    let mut ledger = 0;
+    for place in 0..balances.opened() {
+        if let Some(account) = listed(balances, place) {
+            if ledger != account.ledger {
+                at = put_sums(out, at, ledger, &sums);
+                sums = Sums::zero();
+                ledger = account.ledger;
             }
             at = put_account(out, at, &account);
             sums.add(&account.totals);
-            last = Some(account);
         }
     }
-    match last {
-        Some(before) => put_sums(out, at, before.ledger, &sums),
-        None => at,
-    }
+    put_sums(out, at, ledger, &sums)
 }
 
-// The account that follows another in the listing, or the first.
-fn next_account(balances: &Balances, last: &Option<Account>) -> Option<Account> {
-    let mut next: Option<Account> = None;
-    for place in 0..balances.opened() {
-        if let Some(account) = balances.account_at(place) {
-            if is_after(&account, last) && is_before(&account, &next) {
-                next = Some(account);
-            }
-        }
-    }
-    next
-}
-
-// Whether an account stands after another; after none every account does.
-fn is_after(account: &Account, other: &Option<Account>) -> bool {
-    match *other {
-        None => true,
-        Some(other) => key_of(&other) < key_of(account),
-    }
-}
-
-// Whether an account stands before another; before none every account does.
-fn is_before(account: &Account, other: &Option<Account>) -> bool {
-    match *other {
-        None => true,
-        Some(other) => key_of(account) < key_of(&other),
-    }
+// The account at a place of the report row.
+fn listed(balances: &Balances, place: usize) -> Option<Account> {
+    let line = balances.line_at(place)?;
+    balances.account(line.number)
 }
 
 // `7 MILL 2 0 250 0 900`
@@ -116,8 +72,11 @@ fn put_account(out: &mut [u8], at: usize, account: &Account) -> usize {
     put_byte(out, at, b'\n')
 }
 
-// `7 = 3 0 1150 0 1150`
+// `7 = 3 0 1150 0 1150`; nothing where there were no accounts.
 fn put_sums(out: &mut [u8], at: usize, ledger: u16, sums: &Sums) -> usize {
+    if sums.accounts == 0 {
+        return at;
+    }
     let at = put_decimal(out, at, u64::from(ledger));
     let at = put_byte(out, at, b' ');
     let at = put_byte(out, at, b'=');

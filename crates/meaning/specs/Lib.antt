@@ -12,5 +12,6 @@ pub mod Batches
 pub mod Moves
 pub mod Reading
 pub mod Questions
+pub mod Rows
 pub mod Listing
 pub mod Cases

@@ -2,6 +2,8 @@
 ghost use mathlib.Core.Path.{_≡_};
 ghost use mathlib.Core.Bool.{_&&_};
 ghost use Rattle.meaning.specs.Given.{due, isLive};
+ghost use Rattle.meaning.specs.Rows.{met};
+use crate::fate::Event;
 use crate::fate::Fate;
 
 #[derive(Clone, Copy)]
@@ -16,6 +18,13 @@ pub struct Reservation {
 }
 
 impl Reservation {
+    // Meets an event: only a live reservation changes.
+    pub fn meet(&mut self, event: Event)
+        ensures { λ _. ⌜ now (self .exit) ≡ met event (now (self .entry)) ⌝ }
+    {
+        self.fate.meet(event);
+    }
+
     // Live, with a deadline that has come.
     pub fn is_due(&self, moment: u64) -> bool
         ensures { λ r. ⌜ r ≡ (isLive (now (self .entry) .fate) && due (now (self .entry) .deadline) moment) ⌝ }

@@ -1,8 +1,8 @@
 // One side of an account, debits or credits: what is pending and what is posted.
 ghost use mathlib.Core.Path.{_≡_};
-ghost use mathlib.Core.Bool.{Bool, cond};
 ghost use Prim.Native.Nat.{ℕ, _+_, _-_, _^_, _<_, min};
-ghost use lib.Dec.{ltb};
+ghost use Rattle.meaning.specs.Basics.{at};
+ghost use Rattle.meaning.specs.Sound.{fits};
 use crate::limits::TOP;
 
 #[derive(Clone, Copy)]
@@ -25,28 +25,19 @@ impl Side {
 
     // Whether the side stays within the top with so much more.
     pub fn takes(&self, amount: u64) -> bool
-        ensures { λ r. ⌜ r ≡ ltb (now (self .entry) .pending + now (self .entry) .posted + amount) (2 ^ 56) ⌝ }
+        ensures { λ r. ⌜ r ≡ fits (now (self .entry) .pending) (now (self .entry) .posted) amount ⌝ }
     {
         amount <= TOP - (self.pending + self.posted)
     }
 
-    // Sets an amount aside, where the side takes it.
-    pub fn reserve(&mut self, amount: u64)
-        ensures pending { λ _. ⌜ now (self .exit) .pending ≡ now (self .entry) .pending + cond (ltb (now (self .entry) .pending + now (self .entry) .posted + amount) (2 ^ 56)) amount 0 ⌝ }
-        ensures posted { λ _. ⌜ now (self .exit) .posted ≡ now (self .entry) .posted ⌝ }
+    // Adds to what is pending and to what is posted, where the side takes both.
+    pub fn add(&mut self, pending: u64, posted: u64)
+        ensures pending { λ _. ⌜ now (self .exit) .pending ≡ now (self .entry) .pending + at (fits (now (self .entry) .pending) (now (self .entry) .posted) (pending + posted)) pending ⌝ }
+        ensures posted { λ _. ⌜ now (self .exit) .posted ≡ now (self .entry) .posted + at (fits (now (self .entry) .pending) (now (self .entry) .posted) (pending + posted)) posted ⌝ }
     {
-        if self.takes(amount) {
-            self.pending += amount;
-        }
-    }
-
-    // Adds an amount for good, where the side takes it.
-    pub fn add(&mut self, amount: u64)
-        ensures pending { λ _. ⌜ now (self .exit) .pending ≡ now (self .entry) .pending ⌝ }
-        ensures posted { λ _. ⌜ now (self .exit) .posted ≡ now (self .entry) .posted + cond (ltb (now (self .entry) .pending + now (self .entry) .posted + amount) (2 ^ 56)) amount 0 ⌝ }
-    {
-        if self.takes(amount) {
-            self.posted += amount;
+        if self.takes(pending.saturating_add(posted)) {
+            self.pending += pending;
+            self.posted += posted;
         }
     }
 

@@ -91,6 +91,7 @@ fn remove_at<K: Copy>(row: &mut [K], len: usize, i: usize)
 
 // How many of the first `len` places the row has.
 fn held<K: Copy>(row: &[K], len: usize) -> usize
+    ensures fewer { λ r. ⌜ r ≤ len ⌝ }
     ensures within { λ r. ⌜ r ≤ length (now (row .entry)) ⌝ }
     ensures same { λ r. ⌜ take r (now (row .entry)) ≡ take len (now (row .entry)) ⌝ }
     ensures whole { λ r. ⌜ take r (now (row .entry)) ++ drop r (now (row .entry)) ≡ now (row .entry) ⌝ }
@@ -116,6 +117,7 @@ pub fn put<K: Key>(row: &mut [K], len: usize, key: K) -> usize
 // Takes the first `key` out of the first `len` of the row, and says how many are left of them.
 // Those behind it move down by one, and the last place keeps what it held. Where it is not among them nothing changes.
 pub fn take_out<K: Key>(row: &mut [K], len: usize, key: K) -> usize
+    ensures fewer { λ r. ⌜ r ≤ len ⌝ }
     ensures count { λ r. ⌜ r ≡ length (without before key (take len (now (row .entry)))) ⌝ }
     ensures row { λ _. ⌜ now (row .exit) ≡ rowWithout before key len (now (row .entry)) ⌝ }
     ensures front { λ r. ⌜ take r (now (row .exit)) ≡ without before key (take len (now (row .entry))) ⌝ }

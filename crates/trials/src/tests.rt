@@ -102,7 +102,7 @@ fn a_strip_that_is_cut() -> Result<(), Fail> {
 
 #[test]
 fn a_strip_with_one_byte_wrong() -> Result<(), Fail> {
-    // a byte of the second record, what it is made, and so that its field is no longer sound
+    // a place in the second record, and a byte that breaks the field there
     let wrong = [
         (0, 1),
         (1, 45),
@@ -147,7 +147,8 @@ fn an_append_writes_its_record() -> Result<(), Fail> {
         check_eq(memory[1 + i], TRANSFER[i])?;
         check_eq(memory[49 + i], TRANSFER[i])?;
     }
-    check_eq(memory[97], 9)
+    check_eq(memory[97], 9)?;
+    check_made(memory, 97, 2, 0)
 }
 
 #[test]

@@ -1,35 +1,35 @@
 // One leg: its rules in their order, and what it does to the tables.
-use balances::Balances;
-use balances::Parties;
+ghost use mathlib.Core.Path.{_≡_};
+ghost use denote.Ref.{name};
+use balances::Chain;
+use meaning::Account;
 use meaning::Action;
 use meaning::Content;
-use meaning::Event;
 use meaning::Fate;
 use meaning::Order;
 use meaning::Refusal;
 use meaning::Reservation;
-use meaning::limits::TOP;
 use policy::Policy;
 
-// Runs a leg at a moment, or says why not and leaves the tables.
+// Gives a leg to a chain at a moment, or says why not and leaves it.
 pub(super) fn run_leg<P: Policy>(
-    balances: &mut Balances,
+    chain: &mut Chain<'_>,
     policy: &P,
     moment: u64,
     order: &Order,
-) -> Result<(), Refusal> {
-    if order.number <= balances.highest() {
-        return Err(Refusal::OrderNumber);
-    }
+) -> Result<(), Refusal>
+    ensures { λ _. ⌜ name (now (chain .exit) .balances) ≡ name (now (chain .entry) .balances) ⌝ }
+{
+    let number = order.number;
     match order.action {
         Action::Transfer {
             debit,
             credit,
             amount,
         } => {
-            let parties = movement(balances, policy, debit, credit, amount, false)?;
-            balances.transfer(order.number, &parties, amount);
-            Ok(())
+            let outlook = chain.outlook(number, debit, credit, 0, amount)?;
+            ask(policy, &outlook.debit, &outlook.credit)?;
+            chain.transfer(number, debit, credit, amount)
         }
         Action::Reserve {
             debit,
@@ -37,67 +37,34 @@ pub(super) fn run_leg<P: Policy>(
             amount,
             duration,
         } => {
-            let parties = movement(balances, policy, debit, credit, amount, true)?;
-            let held = Reservation {
-                number: order.number,
+            let outlook = chain.outlook(number, debit, credit, amount, 0)?;
+            ask(policy, &outlook.debit, &outlook.credit)?;
+            chain.reserve(Reservation {
+                number,
                 debit,
                 credit,
                 amount,
                 deadline: deadline(moment, duration),
                 fate: Fate::Live,
-            };
-            balances.reserve(&parties, held)
+            })
         }
         Action::Post {
             reservation,
             amount,
-        } => {
-            let held = balances.live(reservation)?;
-            if amount == 0 || amount > held.amount {
-                return Err(Refusal::PostAmount);
-            }
-            balances.resolve(&held, Event::Post, amount);
-            balances.take_number(order.number);
-            Ok(())
-        }
-        Action::Void { reservation } => {
-            let held = balances.live(reservation)?;
-            balances.resolve(&held, Event::Void, 0);
-            balances.take_number(order.number);
-            Ok(())
-        }
+        } => chain.post(number, reservation, amount),
+        Action::Void { reservation } => chain.void(number, reservation),
     }
 }
 
-// The rules that transfers and reserves share. The policy is shown the totals after the leg.
-fn movement<P: Policy>(
-    balances: &Balances,
-    policy: &P,
-    debit: u32,
-    credit: u32,
-    amount: u64,
-    pending: bool,
-) -> Result<Parties, Refusal> {
-    if amount == 0 || amount > TOP {
-        return Err(Refusal::Amount);
-    }
-    let parties = balances.parties(debit, credit, amount)?;
-    let mut payer = balances.payer(&parties);
-    let mut payee = balances.payee(&parties);
-    if pending {
-        payer.totals.debits.reserve(amount);
-        payee.totals.credits.reserve(amount);
-    } else {
-        payer.totals.debits.add(amount);
-        payee.totals.credits.add(amount);
-    }
-    if !policy.admits(payer.class, payer.limit, &payer.totals) {
+// The policy is shown what the two accounts show after the leg.
+fn ask<P: Policy>(policy: &P, debit: &Account, credit: &Account) -> Result<(), Refusal> {
+    if !policy.admits(debit.class, debit.limit, &debit.totals) {
         return Err(Refusal::DebitNotAdmitted);
     }
-    if !policy.admits(payee.class, payee.limit, &payee.totals) {
+    if !policy.admits(credit.class, credit.limit, &credit.totals) {
         return Err(Refusal::CreditNotAdmitted);
     }
-    Ok(parties)
+    Ok(())
 }
 
 // The deadline of a reserve: none, said by 0, where the duration is 0.

@@ -1,7 +1,6 @@
 // Moving the book's moment on.
 use super::Book;
 use journal::Journal;
-use meaning::Event;
 use meaning::Moved;
 use meaning::Refusal;
 use meaning::limits::LAST_MOMENT;
@@ -22,9 +21,8 @@ impl<J: Journal, P: Policy> Book<J, P> {
             return Err(Refusal::LapsesTooShort);
         }
         for place in 0..due {
-            if let Some(held) = self.balances.earliest_due(moment) {
-                self.balances.resolve(&held, Event::Lapse, 0);
-                lapses[place] = held.number;
+            if let Some(number) = self.balances.lapse_next(moment) {
+                lapses[place] = number;
             }
         }
         self.moment = moment;

@@ -18,6 +18,7 @@ take-least n xs =
 pub returns : need.returns
 returns g c =
     record {
+      fewer = omega arith;
       within = omega arith;
       same = ap (λ m. take m (c .args .row .now)) (c .min .ensures) ∙ take-least (c .args .len) (c .args .row .now);
       whole = take-append-drop (c .min .result) (c .args .row .now);
