@@ -5,4 +5,8 @@ pub mod Opened
 pub mod Transferred
 pub mod Held
 pub mod Releasing
+pub mod Ending
 pub mod Closed
+pub mod Waiting
+pub mod Lapsing
+pub mod Arriving

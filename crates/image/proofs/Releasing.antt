@@ -75,7 +75,7 @@ found-only {X} k n (y ∷ xs) x dist e = go (eqb (k y) n) refl e (λ q. found-on
 apart-numbers : (R Q : Reserved) → (Q .number ≡ R .number → ⊥) → apart dueBefore (dueOf R) (dueOf Q) ≡ true
 apart-numbers R Q ne = grind (arith, tells)
 
-not-apart : (R : Reserved) → apart dueBefore (dueOf R) (dueOf R) ≡ false
+pub not-apart : (R : Reserved) → apart dueBefore (dueOf R) (dueOf R) ≡ false
 not-apart R = grind (arith, tells)
 
 -- where tests agree, they keep the same

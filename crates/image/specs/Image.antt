@@ -1,8 +1,8 @@
--- What the tables hold for a journal J and a moment T, and that openings and legs keep it.
+-- What the tables hold for a journal J and a moment T, and that openings, legs and lapses keep it.
 use mathlib.Core.Path.{_≡_}
 use mathlib.Core.List.{List, [], _∷_, _++_, map}
 use mathlib.Core.Bool.{Bool, true, false, _&&_}
-use Prim.Native.Nat.{ℕ, _≤_}
+use Prim.Native.Nat.{ℕ, zero, suc, _≤_}
 use lib.Dec.{ltb}
 use Rattle.std.specs.declared.option.Option.the-variants.{None}
 use Rattle.meaning.specs.declared.content.Content.the-variants.{Transfer, Reserve, Post, Void}
@@ -20,6 +20,8 @@ use Rattle.ordered.specs.Orders.{dueBefore, lineBefore}
 use Rattle.ordered.specs.Keyed.{dueOf, lineOf}
 use Rattle.balances.specs.Books.{Books, rowAsked, heldAsked, heldPlace, openedWith}
 use Rattle.balances.specs.Legs.{transferred, reserved, closed}
+use Rattle.balances.specs.Lapses.{nextDue, lapsedIf}
+use Rattle.balances.specs.Queues.{dueCount}
 use Rattle.laws.specs.Steps.{Reads}
 
 -- a list that has the newest first, the oldest first
@@ -47,6 +49,11 @@ entry n l t k = record { number = n; linked = l; moment = t; content = k }
 abbrev pub heldAs : (number debit credit amount deadline : ℕ) → Reservation
 heldAs n d c z u = record { number = n; debit = d; credit = c; amount = z; deadline = u; fate = Live }
 
+-- so many times, the first of the queue lapses if its deadline has come
+abbrev pub lapses : (times moment : ℕ) → Books → Books
+lapses zero t k = k
+lapses (suc n) t k = lapses n t (lapsedIf (nextDue t k) k)
+
 -- questions on the image are answered as J and T do
 pub record Asks (J : Journal) (T : ℕ) : Type 0 where
   pub account : (a : ℕ) → rowAsked (imageOf J T) a ≡ accountAsked J T a
@@ -59,6 +66,7 @@ pub record Keeps (policy : Policy) (J : Journal) (T : ℕ) : Type 0 where
   pub by-reserve : (n : ℕ) (l : Bool) (d c z u : ℕ) → refused policy J T n (Reserve d c z u) ≡ None → due u T ≡ false → reserved (heldAs n d c z u) (imageOf J T) ≡ imageOf (entry n l T (Reserve d c z u) ∷ J) T
   pub by-post : (n : ℕ) (l : Bool) (r z : ℕ) → refused policy J T n (Post r z) ≡ None → closed posting n (heldPlace (imageOf J T) r) z (imageOf J T) ≡ imageOf (entry n l T (Post r z) ∷ J) T
   pub by-void : (n : ℕ) (l : Bool) (r : ℕ) → refused policy J T n (Void r) ≡ None → closed voiding n (heldPlace (imageOf J T) r) 0 (imageOf J T) ≡ imageOf (entry n l T (Void r) ∷ J) T
+  pub by-lapses : (t n : ℕ) → T ≤ t → dueCount t (imageOf J T .queue) ≤ n → lapses n t (imageOf J T) ≡ imageOf J t
 
 abbrev pub Image-keeps : Type 0
 Image-keeps = (policy : Policy) (J : Journal) → Reads policy J → (T : ℕ) → Keeps policy J T

@@ -3,6 +3,7 @@ use Rattle.image.proofs.Opened.{by-opening}
 use Rattle.image.proofs.Transferred.{by-transfer}
 use Rattle.image.proofs.Held.{by-reserve}
 use Rattle.image.proofs.Closed.{by-post, by-void}
+use Rattle.image.proofs.Arriving.{by-lapses}
 use Rattle.image.proofs.image_keeps.Needs as need
 
 pub returns : need.returns
@@ -13,4 +14,5 @@ returns c = λ policy J h T. record {
   by-reserve = by-reserve policy J h T;
   by-post = by-post policy J h T;
   by-void = by-void policy J h T;
+  by-lapses = by-lapses policy J h T;
 }
