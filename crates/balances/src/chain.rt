@@ -54,6 +54,7 @@ impl<'a> Chain<'a> {
     // Keeps the legs, and gives the tables back.
     pub fn keep(self) -> Receipt
         ensures books { λ _. ⌜ booksOf (now (self .exit .0)) ≡ booksOf (now (self .entry .balances)) ⌝ }
+        ensures legs { λ r. ⌜ r .legs ≡ now (self .entry .balances) .legs ⌝ }
     {
         let Chain { balances } = self;
         let legs = balances.settle();
