@@ -1,4 +1,6 @@
 // The tables of a book, and chains of legs on them that undo themselves.
+#![tactic(auto)]
+
 pub mod balances;
 pub mod chain;
 pub mod numbered;

@@ -1,4 +1,6 @@
 // What the definitions keep, as theorems: each clause of the contract is one law.
+#![tactic(auto)]
+
 ghost use Rattle.std.specs.Prelude.{ℕ, List};
 ghost use Rattle.meaning.specs.declared.order.Order.{Order};
 ghost use Rattle.meaning.specs.Given.{Journal};

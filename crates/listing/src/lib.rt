@@ -1,4 +1,6 @@
 // The listing of a book, written into the caller's buffer.
+#![tactic(auto)]
+
 ghost use Rattle.std.specs.Prelude.{◌≡◌, ℕ};
 ghost use Rattle.meaning.specs.Given.{Journal};
 ghost use Rattle.meaning.specs.Rules.{Policy};

@@ -1,4 +1,6 @@
 // The words of the water book: what is ordered, what is written down, what a call answers.
+#![tactic(auto)]
+
 pub mod account;
 pub mod answers;
 pub mod cases;

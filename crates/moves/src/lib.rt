@@ -1,4 +1,6 @@
 // The tables move from one moment to a later one: what falls due lapses.
+#![tactic(auto)]
+
 ghost use Rattle.std.specs.Prelude.{◌≡◌, ℕ, ◌≤◌, length};
 ghost use Rattle.meaning.specs.Given.{Journal};
 ghost use Rattle.meaning.specs.Rules.{Policy};

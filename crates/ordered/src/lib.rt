@@ -1,4 +1,6 @@
 // Keys in order in the first places of a slice.
+#![tactic(auto)]
+
 ghost use Rattle.std.specs.Prelude.{◌≡◌, ◌+◌, ◌-◌, ◌<◌, ◌≤◌, Bool, true, false, ◌++◌, length, take, drop};
 ghost use Rattle.std.specs.List.{insert, remove};
 ghost use Rattle.meaning.specs.Basics.{put as put_in};

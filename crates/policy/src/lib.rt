@@ -1,4 +1,6 @@
 // Which totals an account may have.
+#![tactic(auto)]
+
 pub mod policies;
 pub mod policy;
 

@@ -1,4 +1,6 @@
 // Whole runs of a book: any past from its creation on, and any further calls.
+#![tactic(auto)]
+
 pub mod call;
 pub mod calling;
 pub mod desk;

@@ -1,4 +1,6 @@
 // A season of one dam: accounts are opened, water is moved, set aside, posted, voided and left to lapse.
+#![tactic(auto)]
+
 use book::Book;
 use journal::{Journal, Strip};
 use meaning::{Action, Answer, Label, Opening, Order, Refusal};

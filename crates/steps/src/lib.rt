@@ -1,5 +1,7 @@
 // Steps of a book over its tables, its policy and its journal: openings, legs and chains, by the rules over journal
 // and moment.
+#![tactic(auto)]
+
 pub mod batches;
 pub mod chains;
 pub mod legs;

@@ -1,4 +1,6 @@
 // Tables of cases for the calls on a book: each refusal at its boundary, and which of two comes first.
+#![tactic(auto)]
+
 #[cfg(test)]
 mod asking;
 #[cfg(test)]

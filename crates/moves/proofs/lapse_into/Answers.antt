@@ -4,7 +4,7 @@ use Rattle.balances.specs.Lapses.{next_due}
 use Rattle.moves.specs.Turns.{number_or}
 use Rattle.moves.proofs.Stepping.{one_more, no_more, number_more, number_all, number_some, number_none}
 use Rattle.moves.proofs.lapse_into.Goals as goal
-use Rattle.moves.proofs.lapse_into.Goals.{in-Some, in-default}
+use Rattle.moves.proofs.lapse_into.Goals.{in-Some, in_default}
 
 pub loop-place-preserved : goal.loop-place-preserved
 loop-place-preserved c =
@@ -12,14 +12,14 @@ loop-place-preserved c =
     let xs = c.loop-place.places in
     let i = c.loop-place.place-index in
     let k = books_of c.loop-place.balances in
-    let written : c.match-lapse-next.places ≡ set xs i (number_or (get_or xs i 0) (next_due t k)) =
-    elim c.match-lapse-next.branch [
-      | in-Some w ↦ w.places-is ∙ ap (set xs i) (sym (number_some (next_due t k) (get_or xs i 0) w.in-Some.number (sym c.lapse-next.ensures.number ∙ w.in-Some.is)))
-      | in-default w ↦ w.places-is ∙ ap (set xs i) (sym (number_none (next_due t k) (get_or xs i 0) (sym c.lapse-next.ensures.number ∙ w.in-default.is)))
+    let written : c.match-lapse_next.places ≡ set xs i (number_or (get_or xs i 0) (next_due t k)) =
+    elim c.match-lapse_next.branch [
+      | in-Some w ↦ w.places-is ∙ ap (set xs i) (sym (number_some (next_due t k) (get_or xs i 0) w.in-Some.number (sym c.lapse_next.ensures.number ∙ w.in-Some.is)))
+      | in_default w ↦ w.places-is ∙ ap (set xs i) (sym (number_none (next_due t k) (get_or xs i 0) (sym c.lapse_next.ensures.number ∙ w.in_default.is)))
     ] in
     let step = one_more (length xs) i t k (omega arith) in
-    let long : length c.match-lapse-next.places ≡ length xs = omega arith in
-    let next = number_more t k xs c.match-lapse-next.places _ i (omega arith) written c.loop-place.invariant.1 in
+    let long : length c.match-lapse_next.places ≡ length xs = omega arith in
+    let next = number_more t k xs c.match-lapse_next.places _ i (omega arith) written c.loop-place.invariant.1 in
     (cc, cc)
 
 pub returns : goal.returns

@@ -12,7 +12,7 @@ returns g c =
     let i = c.args.i in
     let k = c.args.key in
     let up = shift_up row n i k c.requires.room c.requires.within in
-    let after = c.copy-within.ensures.after in
-    let new : set c.copy-within.new.self i k ≡ insert (take n row) i k ++ drop (n + 1) row = cc in
+    let after = c.copy_within.ensures.after in
+    let new : set c.copy_within.new.self i k ≡ insert (take n row) i k ++ drop (n + 1) row = cc in
     let long : length (insert (take n row) i k) ≡ n + 1 = length-insert (take n row) i k (simp length-take (omega arith)) ∙ simp length-take (omega arith) in
     record { row = new; front = ap (take (n + 1)) new ∙ take_at _ _ _ long }

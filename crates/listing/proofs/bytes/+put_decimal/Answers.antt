@@ -9,9 +9,9 @@ returns t c =
     let n = c.args.number in
     let p = page c.args.out.now c.args.at in
     let q = page c.if-number-lt10.out c.if-number-lt10.next in
-    let r = page c.put-byte.new.out c.put-byte.result in
+    let r = page c.put_byte.new.out c.put_byte.result in
     let e : r ≡ written (decimal n) p = elim c.if-number-lt10.branch [
       | then-number-lt10 w ↦ one_digit n p r w.if-number-lt10.true cc
-      | else-number-lt10 w ↦ last_digit n p q r w.if-number-lt10.false c.ranges.number.fits (cc w.put-decimal-next.ensures.page) c.put-byte.ensures.page
+      | else-number-lt10 w ↦ last_digit n p q r w.if-number-lt10.false c.ranges.number.fits (cc w.put_decimal-next.ensures.page) c.put_byte.ensures.page
     ] in
     record { page = e; short = decimal_short n p r c.ranges.number.fits e }

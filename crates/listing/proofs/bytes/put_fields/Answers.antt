@@ -7,7 +7,7 @@ use Rattle.listing.proofs.bytes.put_fields.Goals as goal
 
 pub loop-number-preserved : goal.loop-number-preserved
 loop-number-preserved c = (
-  sym (field_more c.args.numbers.now c.loop-number.number-index (page c.loop-number.out c.loop-number.next) (page c.put-byte-next.new.out c.put-byte-next.result) (page c.put-decimal-next.new.out c.put-decimal-next.result) c.loop-number-test.true c.put-byte-next.ensures.page c.put-decimal-next.ensures.page) ∙ c.loop-number.invariant.0,
+  sym (field_more c.args.numbers.now c.loop-number.number-index (page c.loop-number.out c.loop-number.next) (page c.put_byte-next.new.out c.put_byte-next.result) (page c.put_decimal-next.new.out c.put_decimal-next.result) c.loop-number-test.true c.put_byte-next.ensures.page c.put_decimal-next.ensures.page) ∙ c.loop-number.invariant.0,
   omega arith,
 )
 

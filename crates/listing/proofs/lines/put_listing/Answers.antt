@@ -10,11 +10,11 @@ loop-key-preserved c =
     let k = books_of c.args.balances.now in
     let h = here c.loop-key.place k.lines c.in-Some.key c.in-Some.ensures in
     let few = few_keys c.args.balances.now in
-    let more = lines_more k k.lines c.loop-key.place c.in-Some.key h (page c.loop-key.out c.loop-key.next) (page c.put-key-next.new.out c.put-key-next.result) (page c.put-end-next.new.out c.put-end-next.result) c.put-key-next.ensures.page c.put-end-next.ensures.page in
+    let more = lines_more k k.lines c.loop-key.place c.in-Some.key h (page c.loop-key.out c.loop-key.next) (page c.put_key-next.new.out c.put_key-next.result) (page c.put_end-next.new.out c.put_end-next.result) c.put_key-next.ensures.page c.put_end-next.ensures.page in
     (sym more ∙ c.loop-key.invariant.0, omega arith, omega arith)
 
 pub returns : goal.returns
 returns c =
     let k = books_of c.args.balances.now in
-    let end = none_here c.loop-key.place k.lines c.in-default.ensures in
+    let end = none_here c.loop-key.place k.lines c.in_default.ensures in
     record { page = sym (ap (λ ls. written (keys_bytes k ls) (page c.loop-key.out c.loop-key.next)) end) ∙ c.loop-key.invariant.0; short = omega arith }

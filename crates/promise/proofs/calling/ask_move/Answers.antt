@@ -4,13 +4,13 @@ use Rattle.promise.specs.Telling.{told_move}
 use Rattle.promise.proofs.Making.{laid, made_by}
 use Rattle.promise.proofs.calling.ask_move.Goals as goal
 
-pub returns-then-is-within : goal.returns-then-is-within
-returns-then-is-within g c = record {
+pub returns-then-is_within : goal.returns-then-is_within
+returns-then-is_within g c = record {
   same = record { told = refl; answers = refl; lapses = refl; bytes = refl };
   made = λ os past.
-      let e = c.move-to.ensures past in
+      let e = c.move_to.ensures past in
       let d = c.args.desk.now in
-      let fits = sym c.if-is-within.ensures in
-      made_by g.J.Journal g.P.Policy os c.args.book.now d (record { at = c.args.at; ask = Move c.args.moment c.args.lapses }) c.move-to.new.self _ fits e.after
-      (c.put.ensures ∙ ap (set d.told.now c.args.at) (c.move-to-told.ensures ∙ ap told_move e.answer)) refl (laid c.args.lapses d.lapses.now c.move-to.new.lapses _ fits c.move-to.auto.lapses e.lapses) refl;
+      let fits = sym c.if-is_within.ensures in
+      made_by g.J.Journal g.P.Policy os c.args.book.now d (record { at = c.args.at; ask = Move c.args.moment c.args.lapses }) c.move_to.new.self _ fits e.after
+      (c.put.ensures ∙ ap (set d.told.now c.args.at) (c.move_to-told.ensures ∙ ap told_move e.answer)) refl (laid c.args.lapses d.lapses.now c.move_to.new.lapses _ fits c.move_to.auto.lapses e.lapses) refl;
 }

@@ -6,14 +6,14 @@ use Rattle.promise.specs.Telling.{told_count}
 use Rattle.promise.proofs.Making.{laid, made_by}
 use Rattle.promise.proofs.calling.ask_run.Goals as goal
 
-pub returns-then-is-within-2 : goal.returns-then-is-within-2
-returns-then-is-within-2 g c = record {
+pub returns-then-is_within-2 : goal.returns-then-is_within-2
+returns-then-is_within-2 g c = record {
   same = record { told = refl; answers = refl; lapses = refl; bytes = refl };
   made = λ past.
       let e = c.run.ensures past in
       let os = c.args.orders.now in
       let d = c.args.desk.now in
-      let fits = sym c.if-is-within-2.ensures in
-      made_by g.J.Journal g.P.Policy os c.args.book.now d (record { at = c.args.at; ask = Run c.args.legs c.args.answers }) c.run.new.self _ (and_from (inside c.args.legs (length os)) (inside c.args.answers (length d.answers.now)) (sym c.if-is-within.ensures) fits) e.after
+      let fits = sym c.if-is_within-2.ensures in
+      made_by g.J.Journal g.P.Policy os c.args.book.now d (record { at = c.args.at; ask = Run c.args.legs c.args.answers }) c.run.new.self _ (and_from (inside c.args.legs (length os)) (inside c.args.answers (length d.answers.now)) (sym c.if-is_within.ensures) fits) e.after
       (c.put.ensures ∙ ap (set d.told.now c.args.at) (c.count-told.ensures ∙ ap told_count e.answer)) (laid c.args.answers d.answers.now c.run.new.answers _ fits c.run.auto.answers e.answers) refl refl;
 }

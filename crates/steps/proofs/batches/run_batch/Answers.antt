@@ -37,7 +37,7 @@ loop-i-preserved g c =
     elim c.if-not-order.branch [
       | then-not-order w ↦
           let end : (get_or os i none).linked ≡ false = w.if-not-order.true in
-          let e = w.run-chain-taken.ensures in
+          let e = w.run_chain-taken.ensures in
           let part = length-take-le (i + 1 - start) (drop start os) (omega arith) in
           let few = e.few in
           let ans = c.loop-i.answers in
@@ -51,8 +51,8 @@ loop-i-preserved g c =
                 let front = subst (λ n. Fronted (take n (drop start os))) k (front_fronted (i - start) (drop start os) W.marked) in
                 let finished = ap (λ n. unfinished (take n (drop start os))) (sym k) ∙ front_finished (i - start) (drop start os) none (omega arith) (ap (λ (o : Order). o.linked) there ∙ end) in
                 let C = e.chain W.tied front finished (long ∙ sym part) in
-                partway_same j policy T x os ans0 (i + 1) (i + 1) _ (c.loop-i.taken + w.run-chain-taken.result) _ _ _ _ _ _ _ w.start-is w.taken-is w.answers-is w.balances-is w.journal-is
-                (partway_chain j policy T x os ans0 start i c.loop-i.taken c.loop-i.answers c.loop-i.balances c.loop-i.journal none inv.0 lt W end (omega arith) w.run-chain-taken.result w.run-chain-taken.new.answers w.run-chain-taken.new.balances w.run-chain-taken.new.journal (w.run-chain-taken.auto.answers ∙ long) C)),
+                partway_same j policy T x os ans0 (i + 1) (i + 1) _ (c.loop-i.taken + w.run_chain-taken.result) _ _ _ _ _ _ _ w.start-is w.taken-is w.answers-is w.balances-is w.journal-is
+                (partway_chain j policy T x os ans0 start i c.loop-i.taken c.loop-i.answers c.loop-i.balances c.loop-i.journal none inv.0 lt W end (omega arith) w.run_chain-taken.result w.run_chain-taken.new.answers w.run_chain-taken.new.balances w.run_chain-taken.new.journal (w.run_chain-taken.auto.answers ∙ long) C)),
           )
       | else-not-order w ↦ (
         omega (arith, w.start-is),
@@ -70,4 +70,4 @@ returns g c = λ tied.
     let start = c.loop-i.start in
     let ans = c.loop-i.answers in
     let long = length-take-le (length os - start) (drop start ans) (omega (arith, length-drop start ans, c.loop-i.auto.answers)) in
-    partway_all g.J.Journal (g.P.Policy.admits c.args.policy.now) c.args.moment c.args.journal.now os c.args.answers.now c.if-answers-orders.false start c.loop-i.i c.loop-i.taken c.loop-i.answers c.refuse-unfinished.new.answers c.loop-i.balances c.loop-i.journal (omega arith) (omega arith) c.loop-i.auto.answers (inv.2 tied) (c.refuse-unfinished.ensures ∙ ap (λ m. set (replicate m (Refused ChainRefused)) (m - 1) (Refused ChainUnfinished)) long)
+    partway_all g.J.Journal (g.P.Policy.admits c.args.policy.now) c.args.moment c.args.journal.now os c.args.answers.now c.if-answers-orders.false start c.loop-i.i c.loop-i.taken c.loop-i.answers c.refuse_unfinished.new.answers c.loop-i.balances c.loop-i.journal (omega arith) (omega arith) c.loop-i.auto.answers (inv.2 tied) (c.refuse_unfinished.ensures ∙ ap (λ m. set (replicate m (Refused ChainRefused)) (m - 1) (Refused ChainUnfinished)) long)

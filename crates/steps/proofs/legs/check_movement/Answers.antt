@@ -8,12 +8,12 @@ use Rattle.balances.specs.Judged.{refusal_in, sum}
 use Rattle.steps.proofs.Judging.{asked_if, movement_judged_lem}
 use Rattle.steps.proofs.legs.check_movement.Goals as goal
 
-pub returns-in-err-outlook : goal.returns-in-err-outlook
-returns-in-err-outlook g c = record {
+pub returns-in_err-outlook : goal.returns-in_err-outlook
+returns-in_err-outlook g c = record {
   narrow = omega arith;
   answer = λ J T shown fits.
       let p = err_from_is_err_and c.from-residual.result c.from-residual.ensures.1 in
-      let h = c.in-err-outlook.ensures.answer in
+      let h = c.in_err-outlook.ensures.answer in
       let a = c.args in
       let k = books_of a.chain.now.balances.now in
       let policy = g.P.Policy.admits a.policy.now in
@@ -26,11 +26,11 @@ pub returns : goal.returns
 returns g c = record {
   narrow = omega arith;
   answer = λ J T shown fits.
-      let h = c.in-ok-outlook.ensures in
+      let h = c.in_ok-outlook.ensures in
       let a = c.args in
       let k = books_of a.chain.now.balances.now in
       let policy = g.P.Policy.admits a.policy.now in
-      let o = c.in-ok-outlook.outlook in
+      let o = c.in_ok-outlook.outlook in
       c.ask.ensures
       ∙ (ap (λ C. asked_if policy (Some (standing_of o.debit)) C) (sym h.shown.credit)
       ∙ (ap (λ D. asked_if policy D (option_map (credited a.pending a.posted) (row_asked k a.credit))) (sym h.shown.debit)

@@ -9,7 +9,7 @@ use Rattle.steps.proofs.legs.run_leg.Goals as goal
 
 pub returns-in-Reserve : goal.returns-in-Reserve
 returns-in-Reserve g c =
-    let e = c.take-reserve.ensures in
+    let e = c.take_reserve.ensures in
     let o = c.args.order.now in
     let T = c.args.moment in
     let a = c.in-Reserve in
@@ -19,33 +19,33 @@ returns-in-Reserve g c =
       legs = e.legs;
       leg = λ J shown lt le.
           let until = c.deadline.ensures.until le in
-          subst (λ (k : Content). Stepped (g.P.Policy.admits c.args.policy.now) J T o.number k c.take-reserve.result c.take-reserve.new.chain.balances.now)
+          subst (λ (k : Content). Stepped (g.P.Policy.admits c.args.policy.now) J T o.number k c.take_reserve.result c.take_reserve.new.chain.balances.now)
           (ap (Reserve a.debit a.credit a.amount) until ∙ sym (ap (content_of T) a.is))
           (e.leg J T shown lt refl (ap (is_until T) until ∙ is_until_lem T a.duration c.deadline.ensures.narrow));
     }
 
 pub returns-in-Post : goal.returns-in-Post
 returns-in-Post g c =
-    let e = c.take-post.ensures in
+    let e = c.take_post.ensures in
     let policy = g.P.Policy.admits c.args.policy.now in
     record {
       same = e.same;
       back = e.back;
       legs = e.legs;
       leg = λ J shown lt le.
-          subst (λ (k : Content). Stepped policy J c.args.moment c.args.order.now.number k c.take-post.result c.take-post.new.chain.balances.now)
+          subst (λ (k : Content). Stepped policy J c.args.moment c.args.order.now.number k c.take_post.result c.take_post.new.chain.balances.now)
           (sym (ap (content_of c.args.moment) c.in-Post.is)) (e.leg policy J c.args.moment shown lt);
     }
 
 pub returns-in-Void : goal.returns-in-Void
 returns-in-Void g c =
-    let e = c.take-void.ensures in
+    let e = c.take_void.ensures in
     let policy = g.P.Policy.admits c.args.policy.now in
     record {
       same = e.same;
       back = e.back;
       legs = e.legs;
       leg = λ J shown lt le.
-          subst (λ (k : Content). Stepped policy J c.args.moment c.args.order.now.number k c.take-void.result c.take-void.new.chain.balances.now)
+          subst (λ (k : Content). Stepped policy J c.args.moment c.args.order.now.number k c.take_void.result c.take_void.new.chain.balances.now)
           (sym (ap (content_of c.args.moment) c.in-Void.is)) (e.leg policy J c.args.moment shown lt);
     }

@@ -16,8 +16,8 @@ use Rattle.steps.proofs.Soundly.{reserve_sound, not_due}
 use Rattle.steps.proofs.Stepping.{room_for_leg, reserve_refused, stopped, stepped, held_live}
 use Rattle.steps.proofs.legs.take_reserve.Goals as goal
 
-pub returns-in-err-check-movement : goal.returns-in-err-check-movement
-returns-in-err-check-movement g c =
+pub returns-in_err-check_movement : goal.returns-in_err-check_movement
+returns-in_err-check_movement g c =
     let p = err_from_is_err_and c.from-residual.result c.from-residual.ensures.1 in
     let R = c.args.held in
     let b = c.args.chain.now.balances.now in
@@ -27,7 +27,7 @@ returns-in-err-check-movement g c =
       back = refl;
       legs = sym (ap (λ (y : Result (Unit {0}) Refusal). cond (is_ok y) (legs_of b + 1) (legs_of b)) p.1);
       leg = λ J T shown lt live later.
-          let why = ap Some p.2 ∙ c.in-err-check-movement.ensures.answer J T shown (omega arith) in
+          let why = ap Some p.2 ∙ c.in_err-check_movement.ensures.answer J T shown (omega arith) in
           stopped policy J T R.number (Reserve R.debit R.credit R.amount R.deadline) c.from-residual.result p.0 b p.1
           (sym (ap (λ x. or_else x (room_refused policy J T)) why ∙ reserve_refused policy J T R.number R.debit R.credit R.amount R.deadline)) shown.tables;
     }
@@ -43,10 +43,10 @@ returns g c =
       back = t.back;
       legs = t.legs;
       leg = λ J T shown lt live later.
-          let passed = c.in-ok-check-movement.ensures.answer J T shown (omega arith) in
+          let passed = c.in_ok-check_movement.ensures.answer J T shown (omega arith) in
           let room = ap (λ x. or_else x (room_judged (books_of b))) (room_for_leg b lt) ∙ room_judged_lem policy J T shown.reads (books_of b) shown.tables in
           stepped policy J T R.number (Reserve R.debit R.credit R.amount R.deadline) c.reserve.result (books_of b) (reserved R) c.reserve.new.self.balances.now
           (t.answer ∙ (room ∙ (ap (λ x. or_else x (room_refused policy J T)) passed ∙ reserve_refused policy J T R.number R.debit R.credit R.amount R.deadline))) t.books shown.tables
           (λ h l. ap (λ (Q : Reservation). reserved Q (image_of J T)) (held_live R live) ∙ by_reserve policy J shown.reads T R.number l R.debit R.credit R.amount R.deadline h (not_due T R.deadline later))
-          (λ h le l. let w = c.in-ok-check-movement.ensures.narrow in reserve_sound policy J shown.reads T R.number l w.number le R.debit R.credit R.amount R.deadline w.debit w.credit later h);
+          (λ h le l. let w = c.in_ok-check_movement.ensures.narrow in reserve_sound policy J shown.reads T R.number l w.number le R.debit R.credit R.amount R.deadline w.debit w.credit later h);
     }

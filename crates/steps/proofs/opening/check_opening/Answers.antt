@@ -7,14 +7,14 @@ use Rattle.balances.specs.Judged.{refusal_in}
 use Rattle.steps.proofs.Accounts.{opened_count, place_first, limit_stops, label_stops, count_stops, spare_stops, zeros_last, label_made, label_not_made}
 use Rattle.steps.proofs.opening.check_opening.Goals as goal
 
-pub returns-in-err-check-place : goal.returns-in-err-check-place
-returns-in-err-check-place g c =
+pub returns-in_err-check_place : goal.returns-in_err-check_place
+returns-in_err-check_place g c =
     let r = c.from-residual.result in
     let p = err_from_is_err_and r c.from-residual.ensures.1 in
     record {
       answer = λ J T shown.
           let policy = g.P.Policy.admits c.args.policy.now in
-          ap refusal_in p.1 ∙ (ap Some p.2 ∙ sym (place_first policy J _ c.args.opening.now _ (c.in-err-check-place.ensures.answer policy J T shown)));
+          ap refusal_in p.1 ∙ (ap Some p.2 ∙ sym (place_first policy J _ c.args.opening.now _ (c.in_err-check_place.ensures.answer policy J T shown)));
       account = IfOk-from_err r _ c.from-residual.ensures.0;
       narrow = IfOk-from_err r _ c.from-residual.ensures.0;
     }
@@ -24,17 +24,17 @@ returns-then-opening-gt-TOP g c = record {
   answer = λ J T shown.
       let policy = g.P.Policy.admits c.args.policy.now in
       let A = c.args.opening.now in
-      sym (limit_stops policy J _ A (c.in-ok-check-place.ensures.answer policy J T shown) (lt-ltb top A.limit c.if-opening-gt-TOP.true));
+      sym (limit_stops policy J _ A (c.in_ok-check_place.ensures.answer policy J T shown) (lt-ltb top A.limit c.if-opening-gt-TOP.true));
   account = tt;
   narrow = tt;
 }
 
-pub returns-in-default : goal.returns-in-default
-returns-in-default g c = record {
+pub returns-in_default : goal.returns-in_default
+returns-in_default g c = record {
   answer = λ J T shown.
       let policy = g.P.Policy.admits c.args.policy.now in
       let A = c.args.opening.now in
-      sym (label_stops policy J _ A (c.in-ok-check-place.ensures.answer policy J T shown) (le-ltb top A.limit c.if-opening-gt-TOP.false) (label_not_made A.label c.in-default.ensures));
+      sym (label_stops policy J _ A (c.in_ok-check_place.ensures.answer policy J T shown) (le-ltb top A.limit c.if-opening-gt-TOP.false) (label_not_made A.label c.in_default.ensures));
   account = tt;
   narrow = tt;
 }
@@ -45,7 +45,7 @@ returns-then-opened-ge-ACCOUNTS g c = record {
       let policy = g.P.Policy.admits c.args.policy.now in
       let A = c.args.opening.now in
       let count = opened_count policy J T shown.reads (books_of c.args.balances.now) shown.tables in
-      sym (count_stops policy J _ A (c.in-ok-check-place.ensures.answer policy J T shown) (le-ltb top A.limit c.if-opening-gt-TOP.false) (label_made A.label c.in-Some.label c.in-Some.ensures).0 (le-leb 64 _ (omega (arith, c.opened.ensures))));
+      sym (count_stops policy J _ A (c.in_ok-check_place.ensures.answer policy J T shown) (le-ltb top A.limit c.if-opening-gt-TOP.false) (label_made A.label c.in-Some.label c.in-Some.ensures).0 (le-leb 64 _ (omega (arith, c.opened.ensures))));
   account = tt;
   narrow = tt;
 }
@@ -56,24 +56,24 @@ returns-then-spare-eq0 g c = record {
       let policy = g.P.Policy.admits c.args.policy.now in
       let A = c.args.opening.now in
       let count = opened_count policy J T shown.reads (books_of c.args.balances.now) shown.tables in
-      sym (spare_stops policy J _ A (c.in-ok-check-place.ensures.answer policy J T shown) (le-ltb top A.limit c.if-opening-gt-TOP.false) (label_made A.label c.in-Some.label c.in-Some.ensures).0 (lt-leb 64 _ (omega (arith, c.opened.ensures))) (eq-eqb c.args.spare 0 c.if-spare-eq0.true));
+      sym (spare_stops policy J _ A (c.in_ok-check_place.ensures.answer policy J T shown) (le-ltb top A.limit c.if-opening-gt-TOP.false) (label_made A.label c.in-Some.label c.in-Some.ensures).0 (lt-leb 64 _ (omega (arith, c.opened.ensures))) (eq-eqb c.args.spare 0 c.if-spare-eq0.true));
   account = tt;
   narrow = tt;
 }
 
-pub returns-in-err-check-zeros : goal.returns-in-err-check-zeros
-returns-in-err-check-zeros g c =
-    let r = c.from-residual-in-err-check-zeros.result in
-    let p = err_from_is_err_and r c.from-residual-in-err-check-zeros.ensures.1 in
+pub returns-in_err-check_zeros : goal.returns-in_err-check_zeros
+returns-in_err-check_zeros g c =
+    let r = c.from-residual-in_err-check_zeros.result in
+    let p = err_from_is_err_and r c.from-residual-in_err-check_zeros.ensures.1 in
     record {
       answer = λ J T shown.
           let policy = g.P.Policy.admits c.args.policy.now in
           let A = c.args.opening.now in
           let count = opened_count policy J T shown.reads (books_of c.args.balances.now) shown.tables in
-          ap refusal_in p.1 ∙ (ap Some p.2 ∙ (c.in-err-check-zeros.ensures.answer
-          ∙ sym (zeros_last policy J _ A (c.in-ok-check-place.ensures.answer policy J T shown) (le-ltb top A.limit c.if-opening-gt-TOP.false) (label_made A.label c.in-Some.label c.in-Some.ensures).0 (lt-leb 64 _ (omega (arith, c.opened.ensures))) (ne_eqb c.args.spare 0 c.if-spare-eq0.false))));
-      account = IfOk-from_err r _ c.from-residual-in-err-check-zeros.ensures.0;
-      narrow = IfOk-from_err r _ c.from-residual-in-err-check-zeros.ensures.0;
+          ap refusal_in p.1 ∙ (ap Some p.2 ∙ (c.in_err-check_zeros.ensures.answer
+          ∙ sym (zeros_last policy J _ A (c.in_ok-check_place.ensures.answer policy J T shown) (le-ltb top A.limit c.if-opening-gt-TOP.false) (label_made A.label c.in-Some.label c.in-Some.ensures).0 (lt-leb 64 _ (omega (arith, c.opened.ensures))) (ne_eqb c.args.spare 0 c.if-spare-eq0.false))));
+      account = IfOk-from_err r _ c.from-residual-in_err-check_zeros.ensures.0;
+      narrow = IfOk-from_err r _ c.from-residual-in_err-check_zeros.ensures.0;
     }
 
 pub returns : goal.returns
@@ -85,8 +85,8 @@ returns g c =
       answer = λ J T shown.
           let policy = g.P.Policy.admits c.args.policy.now in
           let count = opened_count policy J T shown.reads (books_of c.args.balances.now) shown.tables in
-          c.in-ok-check-zeros.ensures.answer
-          ∙ sym (zeros_last policy J _ A (c.in-ok-check-place.ensures.answer policy J T shown) (le-ltb top A.limit c.if-opening-gt-TOP.false) label.0 (lt-leb 64 _ (omega (arith, c.opened.ensures))) (ne_eqb c.args.spare 0 c.if-spare-eq0.false));
+          c.in_ok-check_zeros.ensures.answer
+          ∙ sym (zeros_last policy J _ A (c.in_ok-check_place.ensures.answer policy J T shown) (le-ltb top A.limit c.if-opening-gt-TOP.false) label.0 (lt-leb 64 _ (omega (arith, c.opened.ensures))) (ne_eqb c.args.spare 0 c.if-spare-eq0.false));
       account = λ i. record { account = record { number = A.number; ledger = A.ledger; class = A.class; limit = A.limit; label = label.1 i }; dp = zero.debits.0 i; dq = zero.debits.1 i; cp = zero.credits.0 i; cq = zero.credits.1 i };
-      narrow = record { number = c.in-ok-check-place.ensures.narrow.0; ledger = c.in-ok-check-place.ensures.narrow.1; class = c.in-ok-check-zeros.ensures.narrow };
+      narrow = record { number = c.in_ok-check_place.ensures.narrow.0; ledger = c.in_ok-check_place.ensures.narrow.1; class = c.in_ok-check_zeros.ensures.narrow };
     }

@@ -18,7 +18,7 @@ returns-in-Some c = record {
 pub returns-then-ledger-eq0 : goal.returns-then-ledger-eq0
 returns-then-ledger-eq0 c = record {
   answer = λ policy J T shown.
-      let t = free_when policy J T shown.reads (books_of c.args.balances.now) shown.tables c.args.number c.in-default.ensures in
+      let t = free_when policy J T shown.reads (books_of c.args.balances.now) shown.tables c.args.number c.in_default.ensures in
       let n = ne_eqb c.args.number 0 c.if-number-eq0.false in
       let l = eq-eqb c.args.ledger 0 c.if-ledger-eq0.true in
       rw (n, t, l);
@@ -28,7 +28,7 @@ returns-then-ledger-eq0 c = record {
 pub returns : goal.returns
 returns c = record {
   answer = λ policy J T shown.
-      let t = free_when policy J T shown.reads (books_of c.args.balances.now) shown.tables c.args.number c.in-default.ensures in
+      let t = free_when policy J T shown.reads (books_of c.args.balances.now) shown.tables c.args.number c.in_default.ensures in
       let n = ne_eqb c.args.number 0 c.if-number-eq0.false in
       let l = ne_eqb c.args.ledger 0 c.if-ledger-eq0.false in
       rw (n, t, l);

@@ -11,7 +11,7 @@ pub returns : goal.returns
 returns g c = λ J T shown.
     let policy = g.P.Policy.admits c.args.policy.now in
     let A = c.args.opening.now in
-    let h = c.in-ok-account.ensures in
+    let h = c.in_ok-account.ensures in
     let none = sym (h.answer J T shown) in
     let row = h.account ∙ stands_at_zero policy J T shown.reads A (opening_passes policy J _ A none).free in
     record {

@@ -14,4 +14,4 @@ pub returns-else-place-self : goal.returns-else-place-self
 returns-else-place-self c =
     let b = c.args.self.now in
     let long = used_length standing_of b.opened b.accounts (omega arith) in
-    c.no-account.ensures ∙ sym (get_or_past (books_of b).rows c.args.place no_row (omega arith))
+    c.no_account.ensures ∙ sym (get_or_past (books_of b).rows c.args.place no_row (omega arith))

@@ -10,7 +10,7 @@ returns-then-place-self c =
     let at = used_at standing_of b.opened b.accounts c.args.place c.index-accounts-place.result no_row (omega arith) c.if-place-self.true in
     record {
       books = with_rows (books_of b) (used_set standing_of b.opened b.accounts c.args.place _ c.if-place-self.true
-          ∙ ap (set _ c.args.place) (c.release-debit.ensures ∙ ap (debit_released c.args.amount c.args.part) (sym at)));
+          ∙ ap (set _ c.args.place) (c.release_debit.ensures ∙ ap (debit_released c.args.amount c.args.part) (sym at)));
       noted = refl;
     }
 

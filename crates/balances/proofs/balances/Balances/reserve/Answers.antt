@@ -12,10 +12,10 @@ returns c =
     let b = c.args.self.now in
     let k = books_of b in
     let R = c.args.held in
-    let done = c.note.ensures.books ∙ ap (numbered R.number) (c.hold.ensures.books ∙ ap (with_held R) c.move-between.ensures.books) in
+    let done = c.note.ensures.books ∙ ap (numbered R.number) (c.hold.ensures.books ∙ ap (with_held R) c.move_between.ensures.books) in
     let long = used_length trace_of b.legs b.undo (omega arith) in
     let held = length-take-le b.reserved b.reservations (omega arith) in
-    let noted = c.note.ensures.noted ∙ ap (with_trace _) (c.hold.ensures.noted ∙ c.move-between.ensures.noted) in
+    let noted = c.note.ensures.noted ∙ ap (with_trace _) (c.hold.ensures.noted ∙ c.move_between.ensures.noted) in
     record {
       books = done;
       back = λ lt. leg_back (noted_of b) _ _ (tracing R.debit R.credit _ k) k _ _ noted (c.trace-undo.ensures ∙ ap (λ i. tracing R.debit R.credit i k) (sym held)) done (omega arith) (reserve_back k _ R);

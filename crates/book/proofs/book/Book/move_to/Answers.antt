@@ -12,18 +12,18 @@ use Rattle.book.proofs.Calling.{refused_by, taken_by, move_within, moved_on}
 use Rattle.book.proofs.Running.{running, reads}
 use Rattle.book.proofs.book.Book.move_to.Goals as goal
 
-pub returns-in-err-moved : goal.returns-in-err-moved
-returns-in-err-moved g c = λ past.
+pub returns-in_err-moved : goal.returns-in_err-moved
+returns-in_err-moved g c = λ past.
     let j = g.J.Journal in
     let p = g.P.Policy in
     let b = c.args.self.now in
-    let R = running j p b past c.in-ok-require-read.ensures in
-    let e = c.in-err-moved.ensures (policy_of j p b) (journal_of j b.journal) (reads j p b R) R.runs.tables in
+    let R = running j p b past c.in_ok-require_read.ensures in
+    let e = c.in_err-moved.ensures (policy_of j p b) (journal_of j b.journal) (reads j p b R) R.runs.tables in
     let K = journal_of j b.journal in
-    let q = err_from_is_err_and c.from-residual-in-err-moved.result c.from-residual-in-err-moved.ensures.1 in
+    let q = err_from_is_err_and c.from-residual-in_err-moved.result c.from-residual-in_err-moved.ensures.1 in
     let not = refused_by (move_refused K b.moment c.args.moment (length c.args.lapses.now)) (moved K b.moment c.args.moment) _ e.answer in
-    moved_on j p b R c.args.moment c.args.lapses.now c.move-on.new.lapses c.from-residual-in-err-moved.result c.move-on.new.balances b.moment
-    (subst (λ (r : Result Moved Refusal). MovesOn K b.moment c.args.moment c.args.lapses.now r c.move-on.new.lapses (books_of c.move-on.new.balances)) (sym (q.1 ∙ ap Err q.2)) e)
+    moved_on j p b R c.args.moment c.args.lapses.now c.move_on.new.lapses c.from-residual-in_err-moved.result c.move_on.new.balances b.moment
+    (subst (λ (r : Result Moved Refusal). MovesOn K b.moment c.args.moment c.args.lapses.now r c.move_on.new.lapses (books_of c.move_on.new.balances)) (sym (q.1 ∙ ap Err q.2)) e)
     (sym (ap (λ o. unless o c.args.moment b.moment) not)) (omega arith) R.runs.bounded
 
 pub returns : goal.returns
@@ -31,10 +31,10 @@ returns g c = λ past.
     let j = g.J.Journal in
     let p = g.P.Policy in
     let b = c.args.self.now in
-    let R = running j p b past c.in-ok-require-read.ensures in
-    let e = c.in-ok-moved.ensures (policy_of j p b) (journal_of j b.journal) (reads j p b R) R.runs.tables in
+    let R = running j p b past c.in_ok-require_read.ensures in
+    let e = c.in_ok-moved.ensures (policy_of j p b) (journal_of j b.journal) (reads j p b R) R.runs.tables in
     let K = journal_of j b.journal in
     let not = taken_by (move_refused K b.moment c.args.moment (length c.args.lapses.now)) (moved K b.moment c.args.moment) _ e.answer in
     let w = move_within K b.moment c.args.moment (length c.args.lapses.now) not in
-    moved_on j p b R c.args.moment c.args.lapses.now c.move-on.new.lapses (Ok c.in-ok-moved.moved) c.move-on.new.balances c.args.moment e
+    moved_on j p b R c.args.moment c.args.lapses.now c.move_on.new.lapses (Ok c.in_ok-moved.moved) c.move_on.new.balances c.args.moment e
     (sym (ap (λ o. unless o c.args.moment b.moment) not)) w.0 w.1

@@ -9,5 +9,5 @@ returns g c = λ sound.
     let j = g.J.Journal in
     let p = g.P.Policy in
     let b = c.args.self.now in
-    let R = running j p b sound c.in-ok-require-read.ensures in
+    let R = running j p b sound c.in_ok-require_read.ensures in
     reported j p b R c.args.buffer.now c.report.new.buffer c.report.result (c.report.ensures (policy_of j p b) (journal_of j b.journal) b.moment (reads j p b R) R.runs.tables)
