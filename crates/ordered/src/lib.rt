@@ -32,7 +32,7 @@ pub trait Key: Copy {
 // The place of `key` among `keys`: behind all at the front that come no later.
 fn place<K: Key>(keys: &[K], key: &K) -> usize
     ensures within { result ≤ length keys.now }
-    ensures place { insert keys.now result key.now ≡ put_in before key.now keys.now }
+    ensures place { insert keys.now result key.now ≡ put_in K.before key.now keys.now }
 {
     for i in 0..keys.len() {
         if key.is_before(&keys[i]) {
@@ -44,7 +44,7 @@ fn place<K: Key>(keys: &[K], key: &K) -> usize
 
 // Whether they are two different keys.
 fn differ<K: Key>(a: &K, b: &K) -> bool
-    ensures { result ≡ apart before a.now b.now }
+    ensures { result ≡ apart K.before a.now b.now }
 {
     a.is_before(b) || b.is_before(a)
 }
@@ -52,8 +52,8 @@ fn differ<K: Key>(a: &K, b: &K) -> bool
 // Where `key` first stands among `keys`, or how many they are.
 fn find<K: Key>(keys: &[K], key: &K) -> usize
     ensures within { result ≤ length keys.now }
-    ensures found { result < length keys.now → remove keys.now result ≡ without before key.now keys.now }
-    ensures missing { length keys.now ≤ result → keys.now ≡ without before key.now keys.now }
+    ensures found { result < length keys.now → remove keys.now result ≡ without K.before key.now keys.now }
+    ensures missing { length keys.now ≤ result → keys.now ≡ without K.before key.now keys.now }
 {
     for i in 0..keys.len() {
         if !differ(key, &keys[i]) {
@@ -99,8 +99,8 @@ fn held<K: Copy>(row: &[K], len: usize) -> usize
 // Where the row is full nothing changes.
 pub fn put<K: Key>(row: &mut [K], len: usize, key: K) -> usize
     ensures count { result ≡ count_with len row.old }
-    ensures row { row.new ≡ row_with before key len row.old }
-    ensures front { len < length row.old → take result row.new ≡ put_in before key (take len row.old) }
+    ensures row { row.new ≡ row_with K.before key len row.old }
+    ensures front { len < length row.old → take result row.new ≡ put_in K.before key (take len row.old) }
 {
     if len >= row.len() {
         return len;
@@ -114,9 +114,9 @@ pub fn put<K: Key>(row: &mut [K], len: usize, key: K) -> usize
 // Those behind it move down by one, and the last place keeps what it held. Where it is not among them nothing changes.
 pub fn take_out<K: Key>(row: &mut [K], len: usize, key: K) -> usize
     ensures fewer { result ≤ len }
-    ensures count { result ≡ length (without before key (take len row.old)) }
-    ensures row { row.new ≡ row_without before key len row.old }
-    ensures front { take result row.new ≡ without before key (take len row.old) }
+    ensures count { result ≡ length (without K.before key (take len row.old)) }
+    ensures row { row.new ≡ row_without K.before key len row.old }
+    ensures front { take result row.new ≡ without K.before key (take len row.old) }
 {
     let end = held(row, len);
     let i = find(&row[0..end], &key);
@@ -129,11 +129,11 @@ pub fn take_out<K: Key>(row: &mut [K], len: usize, key: K) -> usize
 
 // What rows in order keep, whatever the key: five laws.
 pub fn rows_stand<K: Key>() -> u8
-    ensures order { StaysInOrder before }
-    ensures entry { AnyOrderIn before }
-    ensures taken { TakenOut before }
-    ensures tests { TestsPassThrough before }
-    ensures fronts { FrontsPass before }
+    ensures order { StaysInOrder K.before }
+    ensures entry { AnyOrderIn K.before }
+    ensures taken { TakenOut K.before }
+    ensures tests { TestsPassThrough K.before }
+    ensures fronts { FrontsPass K.before }
 {
     5
 }
