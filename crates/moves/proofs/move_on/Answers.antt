@@ -6,7 +6,7 @@ use Rattle.moves.proofs.move_on.Goals as goal
 
 pub returns-in_err-check_move : goal.returns-in_err-check_move
 returns-in_err-check_move c = λ policy J reads is.
-    let p = err_from_is_err_and c.from-residual.result c.from-residual.ensures.1 in
+    let p = err_from_is_err_and c.from_residual.result c.from_residual.ensures.1 in
     rw (p.1, p.2) (refused_move policy J reads c.args.from c.args.to (books_of c.args.balances.now) is c.count_due-due.result c.count_due-due.ensures c.args.lapses.now c.in_err-check_move.field-0.0 (sym c.in_err-check_move.ensures))
 
 pub returns : goal.returns

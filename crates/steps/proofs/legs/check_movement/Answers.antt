@@ -12,7 +12,7 @@ pub returns-in_err-outlook : goal.returns-in_err-outlook
 returns-in_err-outlook g c = record {
   narrow = omega arith;
   answer = λ J T shown fits.
-      let p = err_from_is_err_and c.from-residual.result c.from-residual.ensures.1 in
+      let p = err_from_is_err_and c.from_residual.result c.from_residual.ensures.1 in
       let h = c.in_err-outlook.ensures.answer in
       let a = c.args in
       let k = books_of a.chain.now.balances.now in

@@ -18,7 +18,7 @@ use Rattle.steps.proofs.legs.take_reserve.Goals as goal
 
 pub returns-in_err-check_movement : goal.returns-in_err-check_movement
 returns-in_err-check_movement g c =
-    let p = err_from_is_err_and c.from-residual.result c.from-residual.ensures.1 in
+    let p = err_from_is_err_and c.from_residual.result c.from_residual.ensures.1 in
     let R = c.args.held in
     let b = c.args.chain.now.balances.now in
     let policy = g.P.Policy.admits c.args.policy.now in
@@ -28,7 +28,7 @@ returns-in_err-check_movement g c =
       legs = sym (ap (λ (y : Result (Unit {0}) Refusal). cond (is_ok y) (legs_of b + 1) (legs_of b)) p.1);
       leg = λ J T shown lt live later.
           let why = ap Some p.2 ∙ c.in_err-check_movement.ensures.answer J T shown (omega arith) in
-          stopped policy J T R.number (Reserve R.debit R.credit R.amount R.deadline) c.from-residual.result p.0 b p.1
+          stopped policy J T R.number (Reserve R.debit R.credit R.amount R.deadline) c.from_residual.result p.0 b p.1
           (sym (ap (λ x. or_else x (room_refused policy J T)) why ∙ reserve_refused policy J T R.number R.debit R.credit R.amount R.deadline)) shown.tables;
     }
 

@@ -9,14 +9,14 @@ use Rattle.steps.proofs.opening.check_opening.Goals as goal
 
 pub returns-in_err-check_place : goal.returns-in_err-check_place
 returns-in_err-check_place g c =
-    let r = c.from-residual.result in
-    let p = err_from_is_err_and r c.from-residual.ensures.1 in
+    let r = c.from_residual.result in
+    let p = err_from_is_err_and r c.from_residual.ensures.1 in
     record {
       answer = λ J T shown.
           let policy = g.P.Policy.admits c.args.policy.now in
           ap refusal_in p.1 ∙ (ap Some p.2 ∙ sym (place_first policy J _ c.args.opening.now _ (c.in_err-check_place.ensures.answer policy J T shown)));
-      account = IfOk-from_err r _ c.from-residual.ensures.0;
-      narrow = IfOk-from_err r _ c.from-residual.ensures.0;
+      account = IfOk-from_err r _ c.from_residual.ensures.0;
+      narrow = IfOk-from_err r _ c.from_residual.ensures.0;
     }
 
 pub returns-then-opening-gt-TOP : goal.returns-then-opening-gt-TOP
@@ -63,8 +63,8 @@ returns-then-spare-eq0 g c = record {
 
 pub returns-in_err-check_zeros : goal.returns-in_err-check_zeros
 returns-in_err-check_zeros g c =
-    let r = c.from-residual-in_err-check_zeros.result in
-    let p = err_from_is_err_and r c.from-residual-in_err-check_zeros.ensures.1 in
+    let r = c.from_residual-in_err-check_zeros.result in
+    let p = err_from_is_err_and r c.from_residual-in_err-check_zeros.ensures.1 in
     record {
       answer = λ J T shown.
           let policy = g.P.Policy.admits c.args.policy.now in
@@ -72,8 +72,8 @@ returns-in_err-check_zeros g c =
           let count = opened_count policy J T shown.reads (books_of c.args.balances.now) shown.tables in
           ap refusal_in p.1 ∙ (ap Some p.2 ∙ (c.in_err-check_zeros.ensures.answer
           ∙ sym (zeros_last policy J _ A (c.in_ok-check_place.ensures.answer policy J T shown) (le-ltb top A.limit c.if-opening-gt-TOP.false) (label_made A.label c.in-Some.label c.in-Some.ensures).0 (lt-leb 64 _ (omega (arith, c.opened.ensures))) (ne_eqb c.args.spare 0 c.if-spare-eq0.false))));
-      account = IfOk-from_err r _ c.from-residual-in_err-check_zeros.ensures.0;
-      narrow = IfOk-from_err r _ c.from-residual-in_err-check_zeros.ensures.0;
+      account = IfOk-from_err r _ c.from_residual-in_err-check_zeros.ensures.0;
+      narrow = IfOk-from_err r _ c.from_residual-in_err-check_zeros.ensures.0;
     }
 
 pub returns : goal.returns

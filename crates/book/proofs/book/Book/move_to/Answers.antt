@@ -20,9 +20,9 @@ returns-in_err-moved g c = λ past.
     let R = running j p b past c.in_ok-require_read.ensures in
     let e = c.in_err-moved.ensures (policy_of j p b) (journal_of j b.journal) (reads j p b R) R.runs.tables in
     let K = journal_of j b.journal in
-    let q = err_from_is_err_and c.from-residual-in_err-moved.result c.from-residual-in_err-moved.ensures.1 in
+    let q = err_from_is_err_and c.from_residual-in_err-moved.result c.from_residual-in_err-moved.ensures.1 in
     let not = refused_by (move_refused K b.moment c.args.moment (length c.args.lapses.now)) (moved K b.moment c.args.moment) _ e.answer in
-    moved_on j p b R c.args.moment c.args.lapses.now c.move_on.new.lapses c.from-residual-in_err-moved.result c.move_on.new.balances b.moment
+    moved_on j p b R c.args.moment c.args.lapses.now c.move_on.new.lapses c.from_residual-in_err-moved.result c.move_on.new.balances b.moment
     (subst (λ (r : Result Moved Refusal). MovesOn K b.moment c.args.moment c.args.lapses.now r c.move_on.new.lapses (books_of c.move_on.new.balances)) (sym (q.1 ∙ ap Err q.2)) e)
     (sym (ap (λ o. unless o c.args.moment b.moment) not)) (omega arith) R.runs.bounded
 
