@@ -119,7 +119,8 @@ impl Balances {
     // Forgets what the legs wrote over; how many they were.
     pub(crate) fn settle(&mut self) -> usize
         ensures books { books_of self.new ≡ books_of self.old }
-        ensures legs { result ≡ legs_of self.old }
+        ensures legs { result ≡ self.old.legs }
+        ensures noted { result ≡ legs_of self.old }
     {
         let legs = self.legs;
         self.legs = 0;
