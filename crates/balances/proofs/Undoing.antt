@@ -1,15 +1,15 @@
 -- A leg that is put back leaves the tables as they were.
-use Rattle.std.proofs.Common.{◌≡◌, ℕ, ◌+◌, ◌-◌, ◌<◌, ◌≤◌, Bool, true, false, cond, eqb, ltb, List, [], ◌∷◌, ◌++◌, map, length, get_or, take, set, sym, refl, ap, ◌∙◌, ⊎_elim, arith}
+use Rattle.std.proofs.Common.{◌≡◌, ℕ, ◌+◌, ◌-◌, ◌<◌, ◌≤◌, Bool, true, false, cond, ltb, List, [], ◌∷◌, ◌++◌, map, length, get_or, take, set, sym, refl, ap, ◌∙◌, ⊎_elim, arith}
 use lib.Seq.{set_out}
 use Rattle.std.proofs.lemmas.List.{set-set, set_comm, set-get_or, take_all, take_at, set_at, map_more, length_push}
-use Rattle.std.proofs.lemmas.Bool.{cases_eq, lt-ltb, cond-true, cond_both}
+use Rattle.std.proofs.lemmas.Bool.{cases_eq, lt-ltb, cond-true}
 use Rattle.meaning.specs.declared.reservation.Reservation.{Reservation}
 use Rattle.meaning.specs.declared.fate.Event.{Event}
 use Rattle.meaning.specs.Questions.{Standing}
-use Rattle.meaning.specs.Rows.{debited, credited, debit_released, credit_released, met}
+use Rattle.meaning.specs.Rows.{credited, credit_released}
 use Rattle.ordered.specs.declared.due.Due.{Due}
-use Rattle.balances.specs.Books.{Books, books_of, row_place, with_row, no_row, no_reservation}
-use Rattle.balances.specs.Legs.{tracing, moved, released, numbered, waits, transferred, reserved, closed}
+use Rattle.balances.specs.Books.{Books, row_place, no_row, no_reservation}
+use Rattle.balances.specs.Legs.{tracing, moved, numbered, waits, transferred, reserved, closed}
 use Rattle.balances.specs.Undone.{Trace, undone, unwound, Noted, with_trace, with_queue, restored}
 use Rattle.balances.proofs.Tables.{books}
 

@@ -1,7 +1,6 @@
 -- What the tables say: the accounts and reservations in the order in which they came, the highest number, the
 -- queue of deadlines and the report row.
-use Rattle.std.specs.Prelude.{ℕ, Bool, true, false, cond, List, [], ◌∷◌, ◌++◌, map, length, take, Some, None, Option, nat_lt, slice_index_or, slice_set}
-use Rattle.meaning.specs.declared.account.Account.{Account}
+use Rattle.std.specs.Prelude.{ℕ, cond, List, [], ◌∷◌, ◌++◌, map, length, take, Some, None, Option, nat_lt, slice_index_or, slice_set}
 use Rattle.meaning.specs.declared.reservation.Reservation.{Reservation}
 use Rattle.meaning.specs.declared.fate.Fate.TheVariants.{Live}
 use Rattle.meaning.specs.Questions.{Standing}

@@ -1,5 +1,5 @@
 -- Which legs the tables refuse, and what they show the policy.
-use Rattle.std.specs.Prelude.{ℕ, ◌+◌, ◌-◌, ◌^◌, min, Bool, true, false, cond, not, ◌||◌, List, [], ◌∷◌, length, Some, None, Ok, Err, Option, Result, ◌==◌, nat_le, nat_lt}
+use Rattle.std.specs.Prelude.{ℕ, ◌+◌, ◌-◌, ◌^◌, min, not, ◌||◌, [], ◌∷◌, length, Some, None, Ok, Err, Option, Result, ◌==◌, nat_le, nat_lt}
 use Rattle.meaning.specs.declared.reservation.Reservation.{Reservation}
 use Rattle.meaning.specs.declared.refusal.Refusal.{Refusal}
 use Rattle.meaning.specs.declared.refusal.Refusal.TheVariants.{ChainTooLong, OrderNumber, Amount, DebitUnknown, CreditUnknown, SameAccount, LedgersDiffer, TopPassed, ReservationsFull, ReservationUnknown, AlreadyPosted, AlreadyVoided, AlreadyLapsed, PostAmount}

@@ -1,5 +1,5 @@
 -- What falls due.
-use Rattle.std.specs.Prelude.{ℕ, ◌+◌, Bool, true, false, cond, List, [], ◌∷◌, Some, None, Option, nat_le}
+use Rattle.std.specs.Prelude.{ℕ, cond, Some, None, Option, nat_le}
 use Rattle.ordered.specs.declared.due.Due.{Due}
 use Rattle.balances.specs.Books.{Books}
 use Rattle.balances.specs.Legs.{lapsed}

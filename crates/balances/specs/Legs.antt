@@ -1,5 +1,5 @@
 -- What legs make of the tables.
-use Rattle.std.specs.Prelude.{ℕ, Bool, true, false, cond, List, [], ◌∷◌, ◌++◌, map, length, get_or, ◌==◌, nat_lt, slice_index_or, slice_set}
+use Rattle.std.specs.Prelude.{ℕ, cond, List, [], ◌∷◌, ◌++◌, length, get_or, ◌==◌, nat_lt, slice_index_or, slice_set}
 use Rattle.meaning.specs.declared.reservation.Reservation.{Reservation}
 use Rattle.meaning.specs.declared.fate.Event.{Event}
 use Rattle.meaning.specs.declared.fate.Event.TheVariants.{Lapse}

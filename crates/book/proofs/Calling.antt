@@ -1,20 +1,17 @@
 -- What the calls give, from what the tables, the journal and the rules gave.
 use Rattle.std.proofs.Common.{◌≡◌, ℕ, ◌<◌, ◌≤◌, eqb, List, [], ◌∷◌, length, Some, None, Ok, Err, Option, Result, sym, refl, ap, ◌∙◌, subst, arith}
-use Rattle.std.specs.Option.{option_map}
 use Rattle.std.proofs.lemmas.Bool.{eqb-false}
 use Rattle.meaning.specs.declared.answers.Moved.{Moved}
 use Rattle.meaning.specs.declared.answers.Reading.{Reading}
 use Rattle.meaning.specs.declared.answers.Reading.TheVariants.{Through, Stopped}
 use Rattle.meaning.specs.declared.opening.Opening.{Opening}
-use Rattle.meaning.specs.declared.record.Record.{Record}
 use Rattle.meaning.specs.declared.refusal.Refusal.{Refusal}
-use Rattle.meaning.specs.declared.reservation.Reservation.{Reservation}
-use Rattle.meaning.specs.Calls.{answered, unless, over, moved, unread, opens_not, open_writes, moves_not, move_lapses, moved_to, reports_not, report_bytes, account_seen, reservation_seen}
+use Rattle.meaning.specs.Calls.{answered, unless, over, moved, unread, opens_not, moves_not, account_seen, reservation_seen}
 use Rattle.meaning.specs.Given.{Journal}
 use Rattle.meaning.specs.Listing.{listing}
 use Rattle.meaning.specs.Moves.{lapsed, move_refused}
-use Rattle.meaning.specs.Questions.{Standing, account_asked, reservation_asked}
-use Rattle.meaning.specs.Reading.{reading as reading_of, stopped_refused}
+use Rattle.meaning.specs.Questions.{account_asked, reservation_asked}
+use Rattle.meaning.specs.Reading.{stopped_refused}
 use Rattle.meaning.specs.Rules.{Policy, opening_checks, opening_refused, opening_writes}
 use Rattle.meaning.specs.Sound.{last}
 use Rattle.journal.specs.declared.journal.Journal as journal

@@ -1,5 +1,5 @@
 -- A book that was read through: what is known of it, and what keeps it so.
-use Rattle.std.proofs.Common.{◌≡◌, ℕ, ◌≤◌, List, [], ◌∷◌, Some, None, Option, sym, refl, ap, ◌∙◌, subst, arith}
+use Rattle.std.proofs.Common.{◌≡◌, ℕ, ◌≤◌, List, [], None, Option, sym, refl, ap, ◌∙◌, subst, arith}
 use Rattle.meaning.specs.declared.answers.Reading.{Reading}
 use Rattle.meaning.specs.declared.answers.Reading.TheVariants.{Through, Stopped}
 use Rattle.meaning.specs.declared.record.Record.{Record}
@@ -7,13 +7,13 @@ use Rattle.meaning.specs.Basics.{or_else}
 use Rattle.meaning.specs.declared.refusal.Refusal.{Refusal}
 use Rattle.meaning.specs.Batches.{grown}
 use Rattle.meaning.specs.Calls.{unread}
-use Rattle.meaning.specs.Given.{Journal, latest}
+use Rattle.meaning.specs.Given.{latest}
 use Rattle.meaning.specs.Reading.{reading as reading_of, read_so_far, stopped_refused}
 use Rattle.meaning.specs.Sound.{last}
 use Rattle.journal.specs.declared.journal.Journal as journal
 use Rattle.policy.specs.declared.policy.Policy as policy
 use Rattle.balances.specs.declared.balances.Balances.{Balances}
-use Rattle.balances.specs.Books.{Books, books_of}
+use Rattle.balances.specs.Books.{books_of}
 use Rattle.laws.specs.Steps.{Reads, Ready}
 use Rattle.laws.proofs.Passes.{not_stopped}
 use Rattle.image.specs.Image.{image_of}

@@ -5,7 +5,7 @@ use Rattle.std.proofs.ByRecursion.{All-weaker}
 use Rattle.std.proofs.lemmas.Bool.{eqb-true}
 use Rattle.meaning.specs.declared.fate.Fate.{Fate}
 use Rattle.meaning.specs.declared.fate.Fate.TheVariants.{Live, Lapsed}
-use Rattle.meaning.specs.Basics.{at, those}
+use Rattle.meaning.specs.Basics.{those}
 use Rattle.meaning.specs.Given.{Journal, Reserved, accounts, reservations, the_reservation, decided, due, fate, is_live}
 use Rattle.meaning.specs.Rules.{Policy}
 use Rattle.ordered.specs.declared.due.Due.{Due}
@@ -14,7 +14,6 @@ use Rattle.ordered.specs.Keyed.{due_of}
 use Rattle.ordered.specs.Rows.{without, Ordered}
 use Rattle.ordered.proofs.Lawfully.{due_lawful}
 use Rattle.ordered.proofs.Inserts.{in_order_ordered}
-use Rattle.balances.specs.Legs.{lapsed}
 use Rattle.balances.specs.Lapses.{due_if, next_due, lapsed_if}
 use Rattle.balances.specs.Queues.{first, due_count}
 use Rattle.laws.specs.Steps.{Reads}

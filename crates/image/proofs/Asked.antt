@@ -1,5 +1,5 @@
 -- Questions on the image are answered as journal and moment do.
-use Rattle.std.proofs.Common.{◌≡◌, ℕ, refl, ◌∙◌}
+use Rattle.std.proofs.Common.{ℕ, refl, ◌∙◌}
 use Rattle.meaning.specs.declared.reservation.Reservation.{Reservation}
 use Rattle.meaning.specs.Given.{Journal, accounts, reservations}
 use Rattle.meaning.specs.Rules.{Policy}
@@ -8,7 +8,7 @@ use Rattle.balances.specs.Books.{no_row, no_reservation}
 use Rattle.laws.specs.Steps.{Reads}
 use Rattle.laws.proofs.Numbered.{key, numbered}
 use Rattle.laws.proofs.Known.{akey, known}
-use Rattle.image.specs.Image.{oldest, image_of, Asks}
+use Rattle.image.specs.Image.{oldest, Asks}
 use Rattle.image.proofs.Oldest.{asked_found, find-oldest}
 
 abbrev pub skey : Standing → ℕ

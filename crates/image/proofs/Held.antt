@@ -1,23 +1,20 @@
 -- One reservation more keeps the image.
-use Rattle.std.proofs.Common.{◌≡◌, ℕ, ◌+◌, ◌<◌, ◌≤◌, max, Bool, true, false, cond, not, ◌&&◌, eqb, ltb, leb, List, [], ◌∷◌, ◌++◌, map, length, Some, None, sym, refl, ap, ◌∙◌, subst, arith}
+use Rattle.std.proofs.Common.{◌≡◌, ℕ, ◌+◌, ◌<◌, ◌≤◌, max, Bool, true, false, cond, not, ◌&&◌, eqb, ltb, List, [], ◌∷◌, ◌++◌, map, length, None, sym, refl, ap, ◌∙◌, subst, arith}
 use Rattle.std.proofs.lemmas.List.{length-map}
 use Rattle.std.proofs.lemmas.Bool.{lt-ltb, le-ltb, eqb-true, eqb-false, cond-true}
 use Rattle.meaning.specs.declared.content.Content.TheVariants.{Reserve}
 use Rattle.meaning.specs.declared.opening.Opening.{Opening}
-use Rattle.meaning.specs.declared.reservation.Reservation.{Reservation}
-use Rattle.meaning.specs.declared.fate.Fate.{Fate}
 use Rattle.meaning.specs.declared.fate.Fate.TheVariants.{Live, Lapsed}
 use Rattle.meaning.specs.Basics.{at, those, put, in_order}
 use Rattle.meaning.specs.Sound.{top}
 use Rattle.meaning.specs.Given.{Journal, Reserved, accounts, reservations, the_account, highest, ended, decided, fate, due, is_live, debits, credits, pending, posted}
-use Rattle.meaning.specs.Rules.{Policy, number_refused, amount_refused, parties_refused, room_refused, refused}
-use Rattle.meaning.specs.Questions.{Standing, standing, with_fate}
+use Rattle.meaning.specs.Rules.{Policy, number_refused, amount_refused, parties_refused, refused}
+use Rattle.meaning.specs.Questions.{standing, with_fate}
 use Rattle.meaning.specs.Rows.{debited, credited}
-use Rattle.ordered.specs.declared.due.Due.{Due}
 use Rattle.ordered.specs.Orders.{due_before}
 use Rattle.ordered.specs.Keyed.{due_of}
-use Rattle.balances.specs.Books.{Books, no_row}
-use Rattle.balances.specs.Legs.{reserved, moved, with_held, numbered as with_number}
+use Rattle.balances.specs.Books.{no_row}
+use Rattle.balances.specs.Legs.{reserved, numbered as with_number}
 use Rattle.balances.proofs.Tables.{books}
 use Rattle.laws.specs.Steps.{Reads}
 use Rattle.laws.proofs.Finds.{find_key}

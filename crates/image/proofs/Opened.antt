@@ -1,5 +1,5 @@
 -- An opening keeps the image.
-use Rattle.std.proofs.Common.{◌≡◌, ℕ, ◌+◌, ◌<◌, Bool, true, false, cond, ltb, leb, List, [], ◌∷◌, ◌++◌, map, length, None, sym, refl, ap, ◌∙◌, arith}
+use Rattle.std.proofs.Common.{◌≡◌, ℕ, ◌+◌, ◌<◌, Bool, true, false, cond, ltb, List, [], ◌∷◌, ◌++◌, map, length, None, refl, ap, ◌∙◌, arith}
 use Rattle.std.proofs.lemmas.List.{length-map}
 use Rattle.std.proofs.lemmas.Bool.{leb-false, lt-ltb, cond-true}
 use Rattle.meaning.specs.declared.opening.Opening.{Opening}
@@ -9,9 +9,9 @@ use Rattle.meaning.specs.Rules.{Policy, opening_checks, opening_refused, opening
 use Rattle.meaning.specs.Questions.{standing}
 use Rattle.ordered.specs.Orders.{line_before}
 use Rattle.ordered.specs.Keyed.{line_of}
-use Rattle.balances.specs.Books.{Books, opened_with}
+use Rattle.balances.specs.Books.{opened_with}
 use Rattle.laws.proofs.Passes.{all_pass}
-use Rattle.image.specs.Image.{oldest, image_of}
+use Rattle.image.specs.Image.{image_of}
 use Rattle.image.proofs.Oldest.{length-oldest}
 
 module _ {K : Type 0} (before : K → K → Bool) where

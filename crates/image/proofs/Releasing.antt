@@ -1,5 +1,5 @@
 -- What a closed reservation leaves: its two rows, its own place, and the queue.
-use Rattle.std.proofs.Common.{◌≡◌, ℕ, ◌+◌, ◌-◌, ◌<◌, ◌≤◌, min, Bool, true, false, cond, not, ◌&&◌, ◌||◌, eqb, ltb, leb, List, [], ◌∷◌, ◌++◌, map, length, get_or, Some, None, Option, sym, refl, ap, ◌∙◌, subst, arith}
+use Rattle.std.proofs.Common.{◌≡◌, ℕ, ◌+◌, ◌-◌, ◌≤◌, min, Bool, true, false, cond, eqb, List, [], ◌∷◌, map, Some, sym, refl, ap, ◌∙◌, arith}
 use Rattle.std.specs.List.{AllByRecursion as All}
 use Rattle.std.proofs.ByRecursion.{All-weaker}
 use Rattle.std.proofs.lemmas.Bool.{eqb-true, eqb-false, eq-eqb, ne_eqb}
@@ -9,7 +9,6 @@ use Rattle.meaning.specs.Basics.{at, those, find}
 use Rattle.meaning.specs.Given.{Reserved}
 use Rattle.meaning.specs.Questions.{Standing}
 use Rattle.meaning.specs.Rows.{debit_released, credit_released}
-use Rattle.ordered.specs.declared.due.Due.{Due}
 use Rattle.ordered.specs.Orders.{due_before}
 use Rattle.ordered.specs.Rows.{apart, without}
 use Rattle.ordered.specs.Keyed.{due_of}

@@ -1,15 +1,15 @@
 -- A transfer keeps the image.
-use Rattle.std.proofs.Common.{◌≡◌, ℕ, ◌+◌, ◌<◌, ◌≤◌, max, Bool, true, false, eqb, List, [], ◌∷◌, Some, None, sym, refl, ap, ◌∙◌, subst, arith}
+use Rattle.std.proofs.Common.{◌≡◌, ℕ, ◌+◌, ◌<◌, ◌≤◌, max, Bool, true, false, eqb, List, [], ◌∷◌, None, sym, refl, ◌∙◌, subst, arith}
 use Rattle.std.specs.List.{AllByRecursion as All}
 use Rattle.meaning.specs.declared.content.Content.TheVariants.{Transfer}
 use Rattle.meaning.specs.declared.opening.Opening.{Opening}
 use Rattle.meaning.specs.Basics.{at}
 use Rattle.meaning.specs.Sound.{top}
 use Rattle.meaning.specs.Given.{Journal, accounts, the_account, highest, debits, credits, pending, posted}
-use Rattle.meaning.specs.Rules.{Policy, number_refused, amount_refused, parties_refused, refused}
-use Rattle.meaning.specs.Questions.{Standing, standing}
+use Rattle.meaning.specs.Rules.{Policy, number_refused, amount_refused, refused}
+use Rattle.meaning.specs.Questions.{standing}
 use Rattle.meaning.specs.Rows.{debited, credited}
-use Rattle.balances.specs.Books.{Books, no_row}
+use Rattle.balances.specs.Books.{no_row}
 use Rattle.balances.specs.Legs.{transferred}
 use Rattle.balances.proofs.Tables.{books}
 use Rattle.laws.specs.Steps.{Reads}
@@ -18,7 +18,7 @@ use Rattle.laws.proofs.Passes.{both_none, number_above, parties_known}
 use Rattle.laws.proofs.Numbered.{numbered}
 use Rattle.laws.proofs.Known.{akey, known}
 use Rattle.laws.proofs.Totals.{step}
-use Rattle.image.specs.Image.{oldest, image_of, entry}
+use Rattle.image.specs.Image.{image_of, entry}
 use Rattle.image.proofs.Oldest.{same-oldest, changed_if}
 use Rattle.image.proofs.Asked.{skey}
 use Rattle.image.proofs.Moving.{two_changes, moved_row}

@@ -1,5 +1,5 @@
 -- What the tables hold for a journal J and a moment T, and that openings, legs and lapses keep it.
-use Rattle.std.specs.Prelude.{◌≡◌, ℕ, zero, suc, ◌≤◌, Bool, true, false, ◌&&◌, List, [], ◌∷◌, ◌++◌, map, None, nat_lt}
+use Rattle.std.specs.Prelude.{◌≡◌, ℕ, zero, suc, ◌≤◌, Bool, false, ◌&&◌, List, [], ◌∷◌, ◌++◌, map, None, nat_lt}
 use Rattle.meaning.specs.declared.content.Content.TheVariants.{Transfer, Reserve, Post, Void}
 use Rattle.meaning.specs.declared.content.Content.{Content}
 use Rattle.meaning.specs.declared.record.Record.{Record}

@@ -12,7 +12,7 @@ use Rattle.laws.specs.Kept.{Holds, Admitted}
 use Rattle.laws.proofs.Finds.{find_key}
 use Rattle.laws.proofs.Passes.{both_none, Moves, parties_known, opening_passes, reads_prefix, reads_rules, reads_moment}
 use Rattle.laws.proofs.Numbered.{entry, Numbered, numbered}
-use Rattle.laws.proofs.Known.{akey, Pair, Known, known, through_none}
+use Rattle.laws.proofs.Known.{akey, Known, known, through_none}
 use Rattle.laws.proofs.Totals.{step, lapse}
 
 module _ (policy : Policy) (law : Lawful policy) where

@@ -8,7 +8,7 @@ use Rattle.meaning.specs.Rules.{Policy}
 use Rattle.laws.specs.Steps.{Reads}
 use Rattle.laws.specs.Kept.{Balanced}
 use Rattle.laws.proofs.Finds.{Distinct, sum_less, sum_add, sum_zero, find_key}
-use Rattle.laws.proofs.Known.{akey, Pair, Known, known}
+use Rattle.laws.proofs.Known.{akey, Pair, known}
 
 module _ (As : List Opening) (apart : Distinct akey As) (L : ℕ) where
   -- one amount at one account

@@ -1,5 +1,5 @@
 -- A batch answers each order, and writes no more than the journal takes.
-use Rattle.std.proofs.Common.{◌≡◌, ℕ, ◌+◌, ◌-◌, ◌≤◌, Bool, true, false, cond, ltb, List, [], ◌∷◌, ◌++◌, map, length, set, replicate, Some, None, Option, refl, ap, ◌∙◌, arith}
+use Rattle.std.proofs.Common.{◌≡◌, ℕ, ◌+◌, ◌-◌, ◌≤◌, Bool, true, false, cond, ltb, List, [], ◌∷◌, length, replicate, Some, None, Option, refl, ◌∙◌, arith}
 use Rattle.std.proofs.lemmas.List.{length-append, length-map, length-replicate, length-set}
 use Rattle.std.proofs.lemmas.Bool.{ltb-false}
 use Rattle.meaning.specs.declared.order.Order.{Order}
@@ -8,7 +8,7 @@ use Rattle.meaning.specs.declared.refusal.Refusal.{Refusal}
 use Rattle.meaning.specs.Basics.{sum_of}
 use Rattle.meaning.specs.Given.{Journal}
 use Rattle.meaning.specs.Rules.{Policy, leg_writes}
-use Rattle.meaning.specs.Batches.{joins, chains, Stop, first_refused, unfinished, Outcome, all_are, but_one, by_legs, chain, grown, in_turn, batch}
+use Rattle.meaning.specs.Batches.{joins, chains, Stop, first_refused, unfinished, Outcome, all_are, but_one, by_legs, chain, grown, in_turn}
 use Rattle.laws.specs.Laws.{BatchesFit}
 
 joins_total : (o : Order) (cs : List (List Order)) → sum_of length (joins o cs) ≡ 1 + sum_of length cs

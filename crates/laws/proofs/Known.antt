@@ -1,12 +1,12 @@
 -- The accounts of a journal that reads differ, and what is reserved or moved is between two of one ledger.
-use Rattle.std.proofs.Common.{◌≡◌, ℕ, ◌+◌, Bool, true, false, cond, eqb, List, [], ◌∷◌, Some, None, sym, refl, ap, subst, arith}
+use Rattle.std.proofs.Common.{◌≡◌, ℕ, Bool, true, false, cond, eqb, List, [], ◌∷◌, Some, None, sym, refl, ap, subst, arith}
 use Rattle.std.specs.List.{AllByRecursion as All}
 use Rattle.std.proofs.ByRecursion.{All-weaker}
 use Rattle.meaning.specs.declared.content.Content.{Content}
 use Rattle.meaning.specs.declared.content.Content.TheVariants.{Account, Transfer, Reserve, Post, Void}
 use Rattle.meaning.specs.declared.opening.Opening.{Opening}
 use Rattle.meaning.specs.Basics.{at, find}
-use Rattle.meaning.specs.Given.{Journal, Reserved, accounts, reservations, the_account, the_reservation, Side, debits, credits, pick, through, Movement, post_in, movements}
+use Rattle.meaning.specs.Given.{Journal, accounts, reservations, the_account, the_reservation, Side, debits, credits, pick, through, post_in, movements}
 use Rattle.meaning.specs.Rules.{Policy, number_refused, amount_refused, parties_refused, refused}
 use Rattle.laws.specs.Steps.{Reads}
 use Rattle.laws.proofs.Finds.{Distinct, find_all, find_none}

@@ -1,12 +1,12 @@
 -- The totals after one more entry, and at a later moment.
-use Rattle.std.proofs.Common.{◌≡◌, ℕ, ◌+◌, ◌<◌, ◌≤◌, Bool, true, eqb, List, [], ◌∷◌, Some, None, refl, ap, ◌∙◌, arith}
+use Rattle.std.proofs.Common.{◌≡◌, ℕ, ◌+◌, ◌<◌, ◌≤◌, Bool, true, eqb, ◌∷◌, Some, None, refl, ap, ◌∙◌, arith}
 use Rattle.meaning.specs.declared.content.Content.{Content}
 use Rattle.meaning.specs.declared.content.Content.TheVariants.{Account, Transfer, Reserve, Post, Void}
 use Rattle.meaning.specs.declared.fate.Fate.TheVariants.{Live}
 use Rattle.meaning.specs.Basics.{at}
 use Rattle.meaning.specs.Given.{Journal, Reserved, reservations, the_reservation, fate, is_live, ended, Side, pick, through, pending, Movement, post_in, movements, posted, highest}
 use Rattle.meaning.specs.Rules.{Policy, number_refused, refused}
-use Rattle.laws.specs.Steps.{Reads, Alive, Step, falling, Stepwise}
+use Rattle.laws.specs.Steps.{Reads, Step, falling, Stepwise}
 use Rattle.laws.proofs.Finds.{Distinct, sum_add, sum_less, find_key}
 use Rattle.laws.proofs.Passes.{both_none, number_above, post_open, void_open}
 use Rattle.laws.proofs.Numbered.{key, entry, Numbered, numbered}

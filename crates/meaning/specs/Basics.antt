@@ -1,5 +1,5 @@
 -- Words on lists that the definitions share: sums, look-ups, filters and an order.
-use Rattle.std.specs.Prelude.{ℕ, ◌+◌, Bool, true, false, cond, List, [], ◌∷◌, Some, None, Option, ◌==◌}
+use Rattle.std.specs.Prelude.{ℕ, ◌+◌, Bool, cond, List, [], ◌∷◌, Some, None, Option, ◌==◌}
 
 -- n where the test holds, else 0
 abbrev pub at : Bool → ℕ → ℕ

@@ -1,14 +1,12 @@
 -- Ten worked cases, as tests of the definitions that are computed.
-use Rattle.std.specs.Prelude.{◌≡◌, ℕ, ◌-◌, ◌^◌, Bool, true, false, cond, ◌&&◌, List, [], ◌∷◌, map, Some, None, Option, ◌==◌}
+use Rattle.std.specs.Prelude.{◌≡◌, ℕ, Bool, true, false, ◌&&◌, List, [], ◌∷◌, map, Some, None, Option, ◌==◌}
 use Rattle.meaning.specs.declared.order.Order.{Order}
 use Rattle.meaning.specs.declared.order.Action.{Action}
-use Rattle.meaning.specs.declared.order.Action.TheVariants.{Transfer, Reserve, Post, Void}
+use Rattle.meaning.specs.declared.order.Action.TheVariants.{Transfer, Reserve, Post}
 use Rattle.meaning.specs.declared.opening.Opening.{Opening}
-use Rattle.meaning.specs.declared.fate.Fate.{Fate}
-use Rattle.meaning.specs.declared.fate.Fate.TheVariants.{Live, Posted, Voided, Lapsed}
 use Rattle.meaning.specs.Numbers.{answer_of}
 use Rattle.meaning.specs.Sound.{top, last}
-use Rattle.meaning.specs.Given.{Journal, Reserved, the_reservation, fate, is_live, debits, credits, pending, posted}
+use Rattle.meaning.specs.Given.{Journal, Reserved, the_reservation, fate, is_live, debits, pending, posted}
 use Rattle.meaning.specs.Rules.{Policy, opening_writes}
 use Rattle.meaning.specs.Policies.{open_to_all, floor}
 use Rattle.meaning.specs.Batches.{batch, grown}

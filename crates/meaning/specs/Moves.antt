@@ -1,9 +1,9 @@
 -- Moving to a moment: what lapses, in which order, and the earliest deadline that is left.
-use Rattle.std.specs.Prelude.{ℕ, Bool, true, false, cond, ◌&&◌, ◌||◌, List, [], ◌∷◌, map, length, Option, ◌==◌, nat_le, nat_lt}
+use Rattle.std.specs.Prelude.{ℕ, Bool, ◌&&◌, ◌||◌, List, [], ◌∷◌, map, length, Option, ◌==◌, nat_le, nat_lt}
 use Rattle.meaning.specs.declared.refusal.Refusal.{Refusal}
 use Rattle.meaning.specs.declared.refusal.Refusal.TheVariants.{MomentTooLate, MomentEarlier, LapsesTooShort}
 use Rattle.meaning.specs.Basics.{those, in_order, first_of}
-use Rattle.meaning.specs.Given.{Journal, Reserved, reservations, fate, is_live, due}
+use Rattle.meaning.specs.Given.{Journal, Reserved, reservations, fate, is_live}
 use Rattle.meaning.specs.Sound.{last}
 
 -- by deadline, then by number

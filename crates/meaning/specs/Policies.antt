@@ -1,5 +1,5 @@
 -- The laws of a policy, and what the four policies admit.
-use Rattle.std.specs.Prelude.{◌≡◌, ℕ, ◌+◌, ◌-◌, ◌≤◌, Bool, true, false, cond, nat_le, nat_lt}
+use Rattle.std.specs.Prelude.{◌≡◌, ℕ, ◌+◌, ◌-◌, ◌≤◌, true, cond, nat_le, nat_lt}
 use Rattle.meaning.specs.Rules.{Policy}
 
 -- the two laws of a policy: what is pending may go, and as much of it or less be posted

@@ -1,5 +1,5 @@
 -- Rows of keys in order, over any test `before` that says which of two keys comes first.
-use Rattle.std.specs.Prelude.{◌≡◌, ℕ, ◌+◌, Bool, true, false, cond, ◌||◌, List, [], ◌∷◌, ◌++◌, length, take, drop, nat_lt}
+use Rattle.std.specs.Prelude.{◌≡◌, ℕ, ◌+◌, Bool, false, cond, ◌||◌, List, [], ◌∷◌, ◌++◌, length, take, drop, nat_lt}
 use Rattle.std.specs.List.{AllByRecursion as All}
 use Rattle.meaning.specs.Basics.{put}
 

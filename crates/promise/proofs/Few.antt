@@ -1,10 +1,10 @@
 -- A journal that reads has at most 256 reservations, so 256 places are enough for every move.
-use Rattle.std.proofs.Common.{◌≡◌, ℕ, ◌+◌, ◌<◌, ◌≤◌, Bool, true, false, cond, ◌&&◌, ltb, leb, List, [], ◌∷◌, map, length, None, sym, refl, ap, ◌∙◌, arith}
+use Rattle.std.proofs.Common.{◌≡◌, ℕ, ◌<◌, ◌≤◌, Bool, true, false, cond, ◌&&◌, ltb, leb, List, [], ◌∷◌, length, None, arith}
 use Rattle.std.proofs.lemmas.List.{length-map}
 use Rattle.std.proofs.lemmas.Bool.{le-ltb}
 use Rattle.meaning.specs.declared.content.Content.{Content}
 use Rattle.meaning.specs.declared.content.Content.TheVariants.{Account, Transfer, Reserve, Post, Void}
-use Rattle.meaning.specs.Basics.{those, in_order}
+use Rattle.meaning.specs.Basics.{those}
 use Rattle.meaning.specs.Given.{Journal, Reserved, reservations, reservation_in, the_account, fate, is_live}
 use Rattle.meaning.specs.Moves.{sooner, awaiting, lapsed, move_refused}
 use Rattle.meaning.specs.Rules.{Policy, number_refused, amount_refused, parties_refused, room_refused, refused}

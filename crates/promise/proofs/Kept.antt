@@ -1,5 +1,5 @@
 -- A book that was read through keeps all that a book keeps.
-use Rattle.std.proofs.Common.{◌≡◌, None, sym, refl, ap, ◌∙◌}
+use Rattle.std.proofs.Common.{◌≡◌, sym, ap}
 use Rattle.meaning.specs.declared.answers.Reading.TheVariants.{Through}
 use Rattle.meaning.specs.Policies.{Lawful}
 use Rattle.meaning.specs.Reading.{stopped_refused}
@@ -12,7 +12,7 @@ use Rattle.laws.proofs.Admitted.{admitted}
 use Rattle.steps.specs.Written.{journal_of}
 use Rattle.book.specs.declared.book.Book.{Book}
 use Rattle.book.specs.Sound.{policy_of, Sound}
-use Rattle.book.proofs.Running.{Running, running, reads}
+use Rattle.book.proofs.Running.{running, reads}
 use Rattle.promise.specs.Kept.{Keeps}
 
 module _ {J P : Type 0} (j : journal.Ghosts J) (p : policy.Ghosts P) (b : Book J P) (law : Lawful (policy_of j p b)) where

@@ -1,28 +1,19 @@
 -- A whole run: the first book, and the second that takes over.
-use Rattle.std.proofs.Common.{◌≡◌, ℕ, ◌-◌, ◌≤◌, List, [], ◌∷◌, ◌++◌, length, None, Result, sym, refl, ap, ◌∙◌, subst, arith}
-use Rattle.std.proofs.lemmas.List.{append-nil}
-use Rattle.meaning.specs.declared.answers.Moved.{Moved}
-use Rattle.meaning.specs.declared.answers.Reading.{Reading}
+use Rattle.std.proofs.Common.{◌≡◌, List, None, sym, ap, ◌∙◌, subst}
 use Rattle.meaning.specs.declared.answers.Reading.TheVariants.{Through}
 use Rattle.meaning.specs.declared.order.Order.{Order}
 use Rattle.meaning.specs.declared.record.Record.{Record}
-use Rattle.meaning.specs.declared.refusal.Refusal.{Refusal}
-use Rattle.meaning.specs.Basics.{or_else}
-use Rattle.meaning.specs.Calls.{State, unless, moves_not}
-use Rattle.meaning.specs.Given.{Journal, latest}
+use Rattle.meaning.specs.Given.{latest}
 use Rattle.meaning.specs.Moves.{move_refused}
-use Rattle.meaning.specs.Policies.{Lawful}
 use Rattle.meaning.specs.Reading.{reading as reading_of, read_so_far, stopped_refused}
 use Rattle.meaning.specs.Rules.{Policy}
 use Rattle.journal.specs.declared.journal.Journal as journal
 use Rattle.policy.specs.declared.policy.Policy as policy
 use Rattle.laws.proofs.Passes.{not_stopped}
-use Rattle.steps.specs.Written.{records_of, journal_of, entries_of, Wrote}
-use Rattle.steps.proofs.Writes.{wrote_then}
-use Rattle.reading.specs.Stands.{start_of}
+use Rattle.steps.specs.Written.{journal_of, Wrote}
 use Rattle.book.specs.declared.book.Book.{Book}
-use Rattle.book.specs.Called.{Created, MovedTo}
-use Rattle.book.specs.Sound.{policy_of, state_of, Sound}
+use Rattle.book.specs.Called.{Created}
+use Rattle.book.specs.Sound.{policy_of, state_of}
 use Rattle.book.proofs.Running.{running}
 use Rattle.promise.specs.declared.call.Call.{Call}
 use Rattle.promise.specs.declared.desk.Desk.{Desk}
@@ -30,7 +21,6 @@ use Rattle.promise.specs.Histories.{with_desk, beginning}
 use Rattle.promise.specs.Made.{world_of, CallsAll}
 use Rattle.promise.specs.Worlds.{World, final, adds_all}
 use Rattle.promise.proofs.Few.{arrives}
-use Rattle.promise.proofs.Kept.{keeps_all}
 
 pub same-final : {q r : Policy} {w v : World} → q ≡ r → w ≡ v → (os : List Order) (cs : List Call) → final q os w cs ≡ final r os v cs
 same-final {q} {r} {w} {v} e f os cs = ap (λ x. final x os w cs) e ∙ ap (λ x. final r os x cs) f

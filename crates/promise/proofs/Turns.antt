@@ -1,5 +1,5 @@
 -- One call more of a list of calls.
-use Rattle.std.proofs.Common.{◌≡◌, ℕ, ◌+◌, ◌<◌, ◌≤◌, List, [], ◌∷◌, ◌++◌, length, get_or, take, drop, sym, refl, ap, ◌∙◌, subst, arith}
+use Rattle.std.proofs.Common.{◌≡◌, ℕ, ◌+◌, ◌<◌, ◌≤◌, List, [], ◌++◌, length, get_or, drop, sym, refl, ap, ◌∙◌, subst}
 use Rattle.std.proofs.lemmas.List.{drop_more, drop_all, append_assoc, append-nil}
 use Rattle.meaning.specs.declared.order.Order.{Order}
 use Rattle.meaning.specs.declared.record.Record.{Record}
@@ -12,8 +12,8 @@ use Rattle.book.specs.declared.book.Book.{Book}
 use Rattle.book.specs.Sound.{policy_of, Sound}
 use Rattle.promise.specs.declared.call.Call.{Call}
 use Rattle.promise.specs.declared.desk.Desk.{Desk}
-use Rattle.promise.specs.Made.{Same, world_of, Made, Calls, CallsAll}
-use Rattle.promise.specs.Worlds.{World, next, adds, final, adds_all}
+use Rattle.promise.specs.Made.{Same, world_of, Calls, CallsAll}
+use Rattle.promise.specs.Worlds.{next, adds, final, adds_all}
 
 pub same_none : (d : Desk) → Same d d
 same_none d = record { told = refl; answers = refl; lapses = refl; bytes = refl }

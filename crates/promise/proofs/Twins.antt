@@ -1,15 +1,13 @@
 -- The second book: created over the list that the first has written, and moved to the first one's moment.
-use Rattle.std.proofs.Common.{◌≡◌, ℕ, ◌-◌, ◌≤◌, List, [], ◌∷◌, ◌++◌, length, None, Option, Result, sym, refl, ap, ◌∙◌, subst, arith}
-use Rattle.std.proofs.lemmas.List.{append-nil}
+use Rattle.std.proofs.Common.{◌≡◌, ℕ, List, [], ◌++◌, length, None, Result, sym, ap, ◌∙◌, subst, arith}
 use Rattle.meaning.specs.declared.answers.Moved.{Moved}
-use Rattle.meaning.specs.declared.answers.Reading.{Reading}
 use Rattle.meaning.specs.declared.answers.Reading.TheVariants.{Through}
 use Rattle.meaning.specs.declared.order.Order.{Order}
 use Rattle.meaning.specs.declared.record.Record.{Record}
 use Rattle.meaning.specs.declared.refusal.Refusal.{Refusal}
 use Rattle.meaning.specs.Basics.{or_else}
 use Rattle.meaning.specs.Calls.{State, unless}
-use Rattle.meaning.specs.Given.{Journal, latest}
+use Rattle.meaning.specs.Given.{latest}
 use Rattle.meaning.specs.Moves.{move_refused}
 use Rattle.meaning.specs.Reading.{reading as reading_of, stopped_refused}
 use Rattle.meaning.specs.Rules.{Policy}
@@ -25,7 +23,7 @@ use Rattle.promise.specs.declared.call.Call.{Call}
 use Rattle.promise.specs.declared.desk.Desk.{Desk}
 use Rattle.promise.specs.Histories.{with_desk, Alike}
 use Rattle.promise.specs.Made.{world_of, CallsAll}
-use Rattle.promise.specs.Worlds.{World, final, adds_all}
+use Rattle.promise.specs.Worlds.{final, adds_all}
 use Rattle.promise.proofs.Living.{same-final, same-adds}
 
 -- the same records written into two journals with the same list leave the same list

@@ -1,9 +1,8 @@
 -- Whole runs: a book from its creation on, and a second one that takes over from what the first has written.
-use Rattle.std.specs.Prelude.{◌≡◌, ℕ, List, [], ◌++◌, None}
+use Rattle.std.specs.Prelude.{◌≡◌, List, [], ◌++◌, None}
 use Rattle.meaning.specs.declared.answers.Reading.TheVariants.{Through}
 use Rattle.meaning.specs.declared.order.Order.{Order}
 use Rattle.meaning.specs.declared.record.Record.{Record}
-use Rattle.meaning.specs.declared.refusal.Answer.{Answer}
 use Rattle.meaning.specs.Calls.{State}
 use Rattle.meaning.specs.Given.{latest}
 use Rattle.meaning.specs.Moves.{move_refused}

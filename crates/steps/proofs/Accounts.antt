@@ -1,22 +1,21 @@
 -- What the tables say of an account that is to be opened is what the journal says.
-use Rattle.std.proofs.Common.{◌≡◌, ℕ, ◌+◌, ◌^◌, ◌<◌, ◌≤◌, Bool, true, false, cond, not, ◌&&◌, ◌||◌, eqb, ltb, leb, List, [], ◌∷◌, length, Some, None, Option, sym, refl, ap, ◌∙◌, arith}
+use Rattle.std.proofs.Common.{◌≡◌, ℕ, ◌^◌, ◌≤◌, Bool, true, false, not, ◌||◌, eqb, ltb, leb, List, [], ◌∷◌, length, Some, None, Option, sym, refl, ap, ◌∙◌, arith}
 use Rattle.std.specs.Option.{option_map}
-use Rattle.std.proofs.lemmas.Bool.{le-leb, lt-ltb, and_from, true≢false, false≢true}
+use Rattle.std.proofs.lemmas.Bool.{le-leb, lt-ltb, and_from}
 use Rattle.meaning.specs.declared.label.Label.{Label}
 use Rattle.meaning.specs.declared.opening.Opening.{Opening}
 use Rattle.meaning.specs.declared.refusal.Refusal.{Refusal}
 use Rattle.meaning.specs.declared.refusal.Refusal.TheVariants.{AccountNumber, Ledger, Limit, LabelMalformed, AccountsFull, JournalFull, AccountNotAdmitted}
 use Rattle.meaning.specs.Basics.{first_of, or_else}
-use Rattle.meaning.specs.Given.{Journal, accounts, the_account, debits, credits, pending, posted, Side, through}
+use Rattle.meaning.specs.Given.{Journal, accounts, the_account, debits, credits, pending, posted, Side}
 use Rattle.meaning.specs.Labels.{is_label}
 use Rattle.meaning.specs.Made.{only, label_of}
 use Rattle.meaning.specs.Questions.{Standing, standing}
-use Rattle.meaning.specs.Rules.{Policy, is_taken, opening_checks, opening_refused, opening_writes}
-use Rattle.meaning.specs.Sound.{top, last, is_number, sound, content_sound}
+use Rattle.meaning.specs.Rules.{Policy, is_taken, opening_refused, opening_writes}
+use Rattle.meaning.specs.Sound.{top, last, is_number, sound}
 use Rattle.balances.specs.Books.{Books, row_asked}
 use Rattle.laws.specs.Steps.{Reads}
 use Rattle.laws.proofs.Known.{known, through_none}
-use Rattle.laws.proofs.Passes.{opening_passes}
 use Rattle.image.specs.Image.{image_of}
 use Rattle.image.proofs.Asked.{asks}
 use Rattle.image.proofs.Oldest.{length-oldest}

@@ -1,15 +1,15 @@
 -- What a finished chain comes to, case by case.
-use Rattle.std.proofs.Common.{◌≡◌, ℕ, zero, suc, ◌+◌, ◌-◌, ◌<◌, ◌≤◌, Bool, true, false, cond, ltb, List, [], ◌∷◌, ◌++◌, map, length, set, replicate, Some, None, Option, sym, refl, ap, ◌∙◌, subst, arith}
+use Rattle.std.proofs.Common.{◌≡◌, ℕ, zero, suc, ◌<◌, ◌≤◌, false, List, [], ◌∷◌, length, set, replicate, Option, sym, refl, ap, ◌∙◌, subst, arith}
 use Rattle.std.proofs.lemmas.Bool.{lt-ltb, le-ltb}
 use Rattle.meaning.specs.declared.order.Order.{Order}
 use Rattle.meaning.specs.declared.refusal.Refusal.{Refusal}
-use Rattle.meaning.specs.declared.refusal.Refusal.TheVariants.{ChainRefused, ChainTooLong, ChainOverSpare}
+use Rattle.meaning.specs.declared.refusal.Refusal.TheVariants.{ChainTooLong, ChainOverSpare}
 use Rattle.meaning.specs.declared.refusal.Answer.{Answer}
 use Rattle.meaning.specs.declared.refusal.Answer.TheVariants.{Taken, Refused}
 use Rattle.meaning.specs.Basics.{sum_of}
 use Rattle.meaning.specs.Batches.{unfinished, Stop, first_refused, Outcome, all_are, by_legs, chain, grown, is_taken, taken}
 use Rattle.meaning.specs.Given.{Journal}
-use Rattle.meaning.specs.Rules.{Policy, leg_writes}
+use Rattle.meaning.specs.Rules.{Policy}
 use Rattle.journal.specs.declared.journal.Journal as journal
 use Rattle.balances.specs.declared.balances.Balances.{Balances}
 use Rattle.balances.specs.Books.{books_of}

@@ -1,19 +1,18 @@
 -- Partway through a batch: the chains so far, and the chain that is open.
-use Rattle.std.proofs.Common.{◌≡◌, ℕ, zero, suc, ◌+◌, ◌-◌, ◌<◌, ◌≤◌, Bool, true, false, cond, ltb, List, [], ◌∷◌, ◌++◌, length, get_or, take, drop, set, replicate, Some, None, Ok, Err, sym, refl, ap, ◌∙◌, subst, add-one, arith, length-set, take-append-drop}
+use Rattle.std.proofs.Common.{◌≡◌, ℕ, suc, ◌+◌, ◌-◌, ◌<◌, ◌≤◌, true, false, List, [], ◌∷◌, ◌++◌, length, get_or, take, drop, set, replicate, Some, None, Ok, Err, sym, refl, ap, ◌∙◌, subst, arith, length-set, take-append-drop}
 use borrow.Rule.Slice.PartMut.{put_mid}
 use Rattle.std.specs.List.{AllByRecursion as All}
 use Rattle.std.proofs.ByRecursion.{All-more}
-use Rattle.std.proofs.lemmas.List.{get_or-drop, drop-drop, drop_more, drop_all, length-drop, length-take-le, length-append, length-replicate, take_all, append_assoc, append-nil}
+use Rattle.std.proofs.lemmas.List.{get_or-drop, drop-drop, length-drop, length-take-le, length-append, length-replicate, take_all, append_assoc, append-nil}
 use Rattle.std.proofs.lemmas.Slice.{take-put_mid, drop-put_mid}
 use Rattle.std.proofs.lemmas.Bool.{le-ltb, lt-ltb}
 use Rattle.meaning.specs.declared.order.Order.{Order}
 use Rattle.meaning.specs.declared.record.Record.{Record}
-use Rattle.meaning.specs.declared.refusal.Refusal.{Refusal}
 use Rattle.meaning.specs.declared.refusal.Refusal.TheVariants.{ChainRefused, ChainUnfinished, AnswersTooShort}
 use Rattle.meaning.specs.declared.refusal.Answer.{Answer}
 use Rattle.meaning.specs.declared.refusal.Answer.TheVariants.{Refused}
 use Rattle.meaning.specs.Basics.{sum_of, first_of}
-use Rattle.meaning.specs.Batches.{chains, unfinished, Outcome, but_one, chain, grown, and_then, in_turn, batch, is_taken, taken, batch_refused}
+use Rattle.meaning.specs.Batches.{chains, unfinished, Outcome, but_one, chain, and_then, in_turn, batch, is_taken, taken, batch_refused}
 use Rattle.meaning.specs.Calls.{answered, unless, over}
 use Rattle.meaning.specs.Given.{Journal}
 use Rattle.meaning.specs.Rules.{Policy}

@@ -1,5 +1,5 @@
 -- A leg's answer and its effect on the tables, put together.
-use Rattle.std.proofs.Common.{◌≡◌, ℕ, ◌+◌, ◌<◌, ◌≤◌, Bool, true, false, cond, leb, List, [], ◌∷◌, length, is_ok, IsErrAnd, Some, None, Ok, Err, Option, Result, sym, refl, ap, ◌∙◌, arith}
+use Rattle.std.proofs.Common.{◌≡◌, ℕ, ◌+◌, ◌<◌, ◌≤◌, Bool, true, cond, [], ◌∷◌, is_ok, Some, None, Ok, Err, Result, sym, ap, ◌∙◌, arith}
 use Rattle.std.proofs.lemmas.Bool.{lt-leb, true≢false, false≢true}
 use Rattle.meaning.specs.declared.content.Content.{Content}
 use Rattle.meaning.specs.declared.content.Content.TheVariants.{Transfer, Reserve}
@@ -14,7 +14,7 @@ use Rattle.meaning.specs.Sound.{last, sound}
 use Rattle.balances.specs.declared.balances.Balances.{Balances}
 use Rattle.balances.specs.Books.{Books, books_of}
 use Rattle.balances.specs.Judged.{refusal_in, full_judged}
-use Rattle.balances.specs.Undone.{Noted, noted_of, legs_of}
+use Rattle.balances.specs.Undone.{noted_of, legs_of}
 use Rattle.image.specs.Image.{image_of, entry, held_as}
 use Rattle.steps.specs.Legs.{movement_refused}
 use Rattle.steps.specs.Shown.{Stepped}

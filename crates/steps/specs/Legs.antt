@@ -1,5 +1,5 @@
 -- What the policy is asked about a leg, and the rules of a leg between two accounts.
-use Rattle.std.specs.Prelude.{ℕ, ◌+◌, ◌^◌, ◌<◌, Bool, not, List, [], ◌∷◌, Option}
+use Rattle.std.specs.Prelude.{ℕ, ◌+◌, ◌^◌, ◌<◌, Bool, not, [], ◌∷◌, Option}
 use Rattle.meaning.specs.declared.refusal.Refusal.{Refusal}
 use Rattle.meaning.specs.declared.refusal.Refusal.TheVariants.{DebitNotAdmitted, CreditNotAdmitted}
 use Rattle.meaning.specs.Basics.{or_else, first_of}

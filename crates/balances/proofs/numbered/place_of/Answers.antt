@@ -1,4 +1,4 @@
-use Rattle.std.proofs.Common.{◌≡◌, sym, ◌∙◌, arith}
+use Rattle.std.proofs.Common.{sym, ◌∙◌, arith}
 use Rattle.balances.proofs.Placing.{found_here, found_later, found_nowhere}
 use Rattle.balances.proofs.numbered.place_of.Goals as goal
 

@@ -1,4 +1,4 @@
-use Rattle.std.proofs.Common.{◌≡◌, set, sym, refl, ap, ◌∙◌}
+use Rattle.std.proofs.Common.{set, sym, refl, ap, ◌∙◌}
 use Rattle.promise.specs.declared.call.Ask.TheVariants.{Move}
 use Rattle.promise.specs.Telling.{told_move}
 use Rattle.promise.proofs.Making.{laid, made_by}

@@ -1,4 +1,4 @@
-use Rattle.std.proofs.Common.{◌≡◌, length, set, sym, refl, ap, ◌∙◌}
+use Rattle.std.proofs.Common.{length, set, sym, refl, ap, ◌∙◌}
 use Rattle.std.proofs.lemmas.Bool.{and_from}
 use Rattle.promise.specs.declared.call.Ask.TheVariants.{Run}
 use Rattle.promise.specs.Spans.{inside}

@@ -1,4 +1,4 @@
-use Rattle.std.proofs.Common.{◌≡◌, sym, subst}
+use Rattle.std.proofs.Common.{sym, subst}
 use Rattle.promise.specs.declared.call.Ask.{Ask}
 use Rattle.promise.specs.Made.{Calls}
 use Rattle.promise.proofs.calling.call.Goals as goal

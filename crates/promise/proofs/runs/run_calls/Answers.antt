@@ -1,4 +1,3 @@
-use Rattle.std.proofs.Common.{◌<◌, length, arith}
 use Rattle.promise.proofs.Turns.{same_none, same_then, along_none, along_more, along_all}
 use Rattle.promise.proofs.runs.run_calls.Goals as goal
 

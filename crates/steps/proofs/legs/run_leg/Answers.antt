@@ -1,4 +1,4 @@
-use Rattle.std.proofs.Common.{◌≡◌, true, sym, refl, ap, ◌∙◌, subst}
+use Rattle.std.proofs.Common.{sym, refl, ap, ◌∙◌, subst}
 use Rattle.meaning.specs.declared.content.Content.{Content}
 use Rattle.meaning.specs.declared.content.Content.TheVariants.{Reserve}
 use Rattle.meaning.specs.Rules.{content_of}

@@ -1,4 +1,4 @@
-use Rattle.std.proofs.Common.{◌≡◌, sym, refl, ap, ◌∙◌, arith}
+use Rattle.std.proofs.Common.{ap, ◌∙◌, arith}
 use Rattle.meaning.specs.declared.content.Content.TheVariants.{Post}
 use Rattle.meaning.specs.declared.fate.Event.TheVariants.{Post as event}
 use Rattle.meaning.specs.Basics.{or_else}

@@ -1,4 +1,4 @@
-use Rattle.std.proofs.Common.{◌≡◌, sym, refl, ap, ◌∙◌, arith}
+use Rattle.std.proofs.Common.{ap, ◌∙◌, arith}
 use Rattle.meaning.specs.declared.content.Content.TheVariants.{Void}
 use Rattle.meaning.specs.declared.fate.Event.TheVariants.{Void as event}
 use Rattle.meaning.specs.Basics.{or_else}

@@ -1,7 +1,5 @@
-use Rattle.std.proofs.Common.{◌≡◌, true, false, eqb, arith}
+use Rattle.std.proofs.Common.{arith}
 use Rattle.std.proofs.lemmas.Bool.{eq-eqb, ne_eqb}
-use Rattle.meaning.specs.Given.{the_account}
-use Rattle.meaning.specs.Rules.{is_taken}
 use Rattle.balances.specs.Books.{books_of}
 use Rattle.steps.proofs.Accounts.{taken-when, free_when}
 use Rattle.steps.proofs.opening.check_place.Goals as goal

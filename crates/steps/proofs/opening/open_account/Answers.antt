@@ -1,8 +1,7 @@
-use Rattle.std.proofs.Common.{◌≡◌, true, sym, refl, ap, ◌∙◌}
+use Rattle.std.proofs.Common.{sym, ap, ◌∙◌}
 use Rattle.meaning.specs.Questions.{Standing}
-use Rattle.balances.specs.Books.{Books, books_of, opened_with}
+use Rattle.balances.specs.Books.{books_of, opened_with}
 use Rattle.laws.proofs.Passes.{opening_passes}
-use Rattle.image.specs.Image.{image_of}
 use Rattle.image.proofs.Opened.{by_opening}
 use Rattle.steps.proofs.Accounts.{stands_at_zero, opening_sound}
 use Rattle.steps.proofs.opening.open_account.Goals as goal

@@ -1,4 +1,4 @@
-use Rattle.std.proofs.Common.{Some, None, sym, ap, ◌∙◌, arith}
+use Rattle.std.proofs.Common.{Some, sym, ap, ◌∙◌, arith}
 use Rattle.meaning.specs.Rows.{standing_of}
 use Rattle.balances.specs.Books.{books_of, no_row}
 use Rattle.balances.proofs.Tables.{used_at, used_length, asked_there, asked_nowhere}

@@ -1,4 +1,4 @@
-use Rattle.std.proofs.Common.{take, sym, ap, ◌∙◌, rules}
+use Rattle.std.proofs.Common.{take, ap, rules}
 use Rattle.balances.specs.Places.{place_of}
 use Rattle.balances.proofs.Tables.{shown_numbers}
 use Rattle.balances.proofs.balances.Balances.account_place.Goals as goal

@@ -1,4 +1,4 @@
-use Rattle.std.proofs.Common.{◌≡◌, get_or, sym, refl, ap, ◌∙◌, arith}
+use Rattle.std.proofs.Common.{get_or, ap, ◌∙◌, arith}
 use Rattle.meaning.specs.declared.reservation.Reservation.{Reservation}
 use Rattle.balances.specs.Books.{books_of, no_reservation}
 use Rattle.balances.specs.Legs.{numbered, tracing, without_due, due_of, ended}

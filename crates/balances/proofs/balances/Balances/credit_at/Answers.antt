@@ -1,4 +1,4 @@
-use Rattle.std.proofs.Common.{take, set, sym, refl, ap, ◌∙◌, arith}
+use Rattle.std.proofs.Common.{set, sym, refl, ap, ◌∙◌, arith}
 use Rattle.meaning.specs.Rows.{standing_of, credited}
 use Rattle.balances.specs.Books.{books_of, no_row}
 use Rattle.balances.proofs.Tables.{used_at, used_set, used_past, with_rows}

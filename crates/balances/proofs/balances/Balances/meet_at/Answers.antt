@@ -1,4 +1,4 @@
-use Rattle.std.proofs.Common.{◌≡◌, set, sym, refl, ap, ◌∙◌, arith}
+use Rattle.std.proofs.Common.{set, sym, refl, ap, ◌∙◌, arith}
 use lib.Seq.{take-set-lt, set_out}
 use Rattle.std.proofs.lemmas.List.{get_or-take, length-take-le}
 use Rattle.meaning.specs.Rows.{met}

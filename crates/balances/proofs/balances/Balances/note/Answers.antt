@@ -1,6 +1,6 @@
 use Rattle.std.proofs.Common.{◌≡◌, true, false, ltb, length, sym, refl, ap, ◌∙◌, arith}
 use Rattle.std.proofs.lemmas.Bool.{lt-ltb, le-ltb, cond-true, cond-false}
-use Rattle.balances.specs.Undone.{Noted, trace_of, noted_of}
+use Rattle.balances.specs.Undone.{trace_of, noted_of}
 use Rattle.balances.proofs.Tables.{used_length, used_push}
 use Rattle.balances.proofs.balances.Balances.note.Goals as goal
 

@@ -1,4 +1,4 @@
-use Rattle.std.proofs.Common.{◌≡◌, ◌≤◌, min, length, take, set, sym, refl, ap, ◌∙◌, arith}
+use Rattle.std.proofs.Common.{◌≤◌, min, length, take, set, sym, refl, ap, ◌∙◌, arith}
 use lib.Seq.{set_out}
 use Rattle.balances.specs.Books.{books_of}
 use Rattle.balances.proofs.Tables.{slot_back_lem, books}

@@ -1,7 +1,7 @@
-use Rattle.std.proofs.Common.{Some, None, sym, ap, ◌∙◌, arith}
+use Rattle.std.proofs.Common.{Some, sym, ap, ◌∙◌, arith}
 use Rattle.std.proofs.lemmas.List.{get_or-take, length-take-le}
 use Rattle.balances.specs.Books.{books_of, no_reservation}
-use Rattle.balances.proofs.Tables.{asked_there, asked_nowhere}
+use Rattle.balances.proofs.Tables.{asked_there}
 use Rattle.balances.proofs.balances.Balances.reservation.Goals as goal
 
 pub returns-then-place-self : goal.returns-then-place-self

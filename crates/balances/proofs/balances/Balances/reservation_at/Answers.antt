@@ -1,4 +1,4 @@
-use Rattle.std.proofs.Common.{◌≡◌, sym, ◌∙◌, arith}
+use Rattle.std.proofs.Common.{sym, arith}
 use Rattle.std.proofs.lemmas.List.{get_or-take, get_or_past, length-take-le}
 use Rattle.balances.specs.Books.{books_of, no_reservation}
 use Rattle.balances.proofs.balances.Balances.reservation_at.Goals as goal

@@ -1,7 +1,7 @@
-use Rattle.std.proofs.Common.{◌≡◌, sym, refl, ap, ◌∙◌, arith}
+use Rattle.std.proofs.Common.{sym, ap, ◌∙◌, arith}
 use Rattle.std.proofs.lemmas.List.{length-take-le}
 use Rattle.balances.specs.Books.{books_of}
-use Rattle.balances.specs.Legs.{numbered, tracing, transferred}
+use Rattle.balances.specs.Legs.{numbered, tracing}
 use Rattle.balances.specs.Undone.{trace_of, noted_of, with_trace}
 use Rattle.balances.proofs.Tables.{used_length}
 use Rattle.balances.proofs.Undoing.{leg_back, leg_more, transfer_back}

@@ -1,7 +1,7 @@
-use Rattle.std.proofs.Common.{◌≡◌, ◌-◌, ◌≤◌, map, length, take, sym, refl, ap, ◌∙◌, arith}
+use Rattle.std.proofs.Common.{◌≡◌, ◌-◌, map, length, take, sym, ap, ◌∙◌, arith}
 use Rattle.balances.specs.Books.{books_of}
 use Rattle.balances.specs.Queues.{keys_of}
-use Rattle.balances.specs.Undone.{trace_of, noted_of, restored}
+use Rattle.balances.specs.Undone.{trace_of, restored}
 use Rattle.balances.proofs.Tables.{used_length}
 use Rattle.balances.proofs.Undoing.{noted, latest_back}
 use Rattle.balances.proofs.balances.Balances.unwind.Goals as goal

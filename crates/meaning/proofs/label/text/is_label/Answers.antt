@@ -1,5 +1,4 @@
-use Rattle.std.proofs.Common.{◌≡◌, ◌&&◌, get_or, take, drop, sym, ◌∙◌, arith}
-use Rattle.meaning.specs.Labels.{letter, lettered, is_label}
+use Rattle.std.proofs.Common.{sym, ◌∙◌, arith}
 use Rattle.meaning.proofs.Lettered.{label_by_bytes}
 use Rattle.meaning.proofs.label.text.is_label.Goals as goal
 

@@ -1,4 +1,4 @@
-use Rattle.std.proofs.Common.{◌≡◌, get_or, drop, sym, ap, ◌∙◌}
+use Rattle.std.proofs.Common.{sym, ap, ◌∙◌}
 use Rattle.std.proofs.lemmas.List.{at_drop_all, take_rest}
 use Rattle.meaning.specs.Labels.{filling, lettered}
 use Rattle.meaning.proofs.Lettered.{lettered_on, lettered-ends}
