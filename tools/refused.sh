@@ -1,20 +1,26 @@
 #!/usr/bin/env bash
 # Misuses that the compiler must refuse before a program runs. Each crates/NAME/refused/*.edit is applied to a copy of
-# the repository, and the compiler must answer with the error that its 'error:' line names. It needs the target/ of a
-# check that passed, so that only the edited crate is compiled.
+# the repository, and the compiler must answer with the error that its 'error:' line names.
 set -euo pipefail
 root=$(cd "$(dirname "$0")/.." && pwd)
 work=$(mktemp -d)
 trap 'rm -rf "$work"' EXIT
+mkdir "$work/crates"
+cp "$root/crates.txt" "$work/"
+for crate in "$root"/crates/*; do
+    mkdir "$work/crates/${crate##*/}"
+    for part in src specs proofs; do
+        if [ -d "$crate/$part" ]; then cp -r "$crate/$part" "$work/crates/${crate##*/}/"; fi
+    done
+done
+
 refused=0
 for edit in "$root"/crates/*/refused/*.edit; do
     crate=$(basename "$(dirname "$(dirname "$edit")")")
     label=$crate/$(basename "$edit" .edit)
-    rm -rf "$work/repo"
-    mkdir "$work/repo"
-    cp -r "$root/crates" "$root/crates.txt" "$work/repo/"
-    ln -s "$root/target" "$work/repo/target"
-    python3 - "$edit" "$work/repo/crates/$crate" <<'PY'
+    rm -rf "$work/crates/$crate/src"
+    cp -r "$root/crates/$crate/src" "$work/crates/$crate/"
+    python3 - "$edit" "$work/crates/$crate" <<'PY'
 import sys
 edit, crate = sys.argv[1:]
 lines = dict(line.split(": ", 1) for line in open(edit).read().splitlines())
@@ -25,10 +31,10 @@ if text.count(lines["old"]) != 1:
 open(path, "w").write(text.replace(lines["old"], lines["new"]))
 PY
     error=$(sed -n 's/^error: //p' "$edit")
-    (cd "$work/repo" && timeout 300 rt mir "$crate") > "$work/log" 2>&1 || true
+    (cd "$work/crates/$crate" && timeout 1800 rt check) > "$work/log" 2>&1 || true
     if ! grep -q "error\[$error\]" "$work/log"; then
         echo "refused: $label: NOT refused with $error" >&2
-        head -n 5 "$work/log" >&2
+        tail -n 20 "$work/log" >&2
         exit 1
     fi
     echo "refused: $label: $error, as it must be"

@@ -1,6 +1,6 @@
 -- What rows in order keep, over any order.
 use Rattle.std.specs.Prelude.{◌≡◌, Bool, true, false, not, List, [], ◌∷◌, ◌++◌, length, take, drop}
-use Rattle.std.specs.List.{AllByRecursion as All}
+use Rattle.std.specs.List.{AllByRecursion}
 use Rattle.meaning.specs.Basics.{those, put, in_order}
 use Rattle.ordered.specs.Rows.{apart, Ordered, without}
 
@@ -24,8 +24,8 @@ module _ {K : Type 0} (before : K → K → Bool) where
 
   -- a key that is not there is not taken out; taking out undoes putting in, and may come before the ordering or after it
   pub record TakenOut : Type 0 where
-    pub none : (k : K) (xs : List K) → All (λ x. apart before k x ≡ true) xs → without before k xs ≡ xs
-    pub fresh : (k : K) (xs : List K) → All (λ x. apart before k x ≡ true) xs → without before k (put before k xs) ≡ xs
+    pub none : (k : K) (xs : List K) → AllByRecursion (λ x. apart before k x ≡ true) xs → without before k xs ≡ xs
+    pub fresh : (k : K) (xs : List K) → AllByRecursion (λ x. apart before k x ≡ true) xs → without before k (put before k xs) ≡ xs
     pub back : (k : K) (xs : List K) → Ordered before xs → without before k (put before k xs) ≡ xs
     pub either : (k : K) (xs : List K) → without before k (in_order before xs) ≡ in_order before (without before k xs)
 

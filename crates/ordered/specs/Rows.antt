@@ -1,6 +1,6 @@
 -- Rows of keys in order, over any test `before` that says which of two keys comes first.
 use Rattle.std.specs.Prelude.{◌≡◌, ℕ, ◌+◌, Bool, false, cond, ◌||◌, List, [], ◌∷◌, ◌++◌, length, take, drop, nat_lt}
-use Rattle.std.specs.List.{AllByRecursion as All}
+use Rattle.std.specs.List.{AllByRecursion}
 use Rattle.meaning.specs.Basics.{put}
 
 -- how many of a row are in use after one more was put among its first n, if there was room
@@ -15,7 +15,7 @@ module _ {K : Type 0} (before : K → K → Bool) where
   -- no key is before an earlier one
   abbrev pub Ordered : List K → Type 0
   Ordered [] = Unit {0}
-  Ordered (x ∷ xs) = All (λ y. before y x ≡ false) xs × Ordered xs
+  Ordered (x ∷ xs) = AllByRecursion (λ y. before y x ≡ false) xs × Ordered xs
 
   -- the keys without the first that is the same as k
   abbrev pub without : K → List K → List K

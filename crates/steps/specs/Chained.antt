@@ -1,6 +1,6 @@
 -- Chains: the legs one after another, and what a whole chain leaves.
 use Rattle.std.specs.Prelude.{◌≡◌, ℕ, ◌≤◌, true, List, [], map, length, is_ok, Some, None, Ok, Err, Option, Result}
-use Rattle.std.specs.List.{AllByRecursion as All}
+use Rattle.std.specs.List.{AllByRecursion}
 use Rattle.meaning.specs.declared.order.Order.{Order}
 use Rattle.meaning.specs.declared.refusal.Answer.{Answer}
 use Rattle.meaning.specs.declared.refusal.Refusal.{Refusal}
@@ -28,7 +28,7 @@ pub record Ran (policy : Policy) (J : Journal) (T : ℕ) (os : List Order) (r : 
   pub stop : stop_in r ≡ first_refused policy J T os
   pub tables : is_ok r ≡ true → books_of after ≡ image_of (grown J (map (leg_writes T) os)) T
   pub legs : is_ok r ≡ true → legs_of after ≡ length os
-  pub sound : is_ok r ≡ true → All (λ o. sound (leg_writes T o) ≡ true) os
+  pub sound : is_ok r ≡ true → AllByRecursion (λ o. sound (leg_writes T o) ≡ true) os
 
 module _ {J : Type 0} (j : journal.Ghosts J) (policy : Policy) where
   -- the journal reads through, its last entry is not after T, and the tables hold what both give

@@ -4,7 +4,7 @@ ghost use Rattle.meaning.specs.declared.content.Content.TheVariants.{Transfer, R
 ghost use Rattle.meaning.specs.declared.fate.Fate.TheVariants.{Live};
 ghost use Rattle.meaning.specs.Given.{Journal};
 ghost use Rattle.meaning.specs.Rows.{standing_of};
-ghost use Rattle.meaning.specs.Rules.{Policy as Admission, deadline as deadlineOf, content_of};
+ghost use Rattle.meaning.specs.Rules.{Policy as Admission, deadline as deadline_of, content_of};
 ghost use Rattle.meaning.specs.Sound.{last, is_until};
 ghost use Rattle.balances.specs.Judged.{refusal_in};
 ghost use Rattle.balances.specs.Undone.{rolled_back, legs_of};
@@ -47,7 +47,7 @@ fn check_movement<P: Policy>(
 
 // The deadline of a reserve: none, said by 0, where the duration is 0.
 pub(crate) fn deadline(moment: u64, duration: u32) -> u64
-    ensures until { moment ≤ last → result ≡ deadlineOf moment duration }
+    ensures until { moment ≤ last → result ≡ deadline_of moment duration }
     ensures narrow { duration < 2 ^ 32 }
 {
     if duration == 0 {

@@ -12,7 +12,7 @@ mod closings;
 #[cfg(test)]
 mod legs;
 #[cfg(test)]
-mod moves;
+mod moving;
 #[cfg(test)]
 mod openings;
 #[cfg(test)]
