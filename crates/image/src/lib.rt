@@ -3,9 +3,8 @@
 
 ghost use Rattle.image.specs.Image.{ImageKeeps};
 
-// How many laws the image has.
-pub fn image_keeps() -> u8
+// The image keeps its seven laws.
+pub fn image_keeps()
     ensures { ImageKeeps }
 {
-    7
 }

@@ -7,8 +7,8 @@ ghost use Rattle.meaning.specs.Given.{Journal};
 ghost use Rattle.meaning.specs.Rules.{Policy};
 ghost use Rattle.laws.specs.Laws.{PrefixReads, TotalsStep, FatesStep, ClosedAtMostOnce, LedgersBalance, AccountsAreAdmitted, WritingsRead, BatchesFit};
 
-// How many laws there are.
-pub fn laws_hold() -> u8
+// The definitions keep these laws.
+pub fn laws_hold()
     ensures prefix { PrefixReads }
     ensures totals { TotalsStep }
     ensures fates { FatesStep }
@@ -18,5 +18,4 @@ pub fn laws_hold() -> u8
     ensures writings { (policy : Policy) → WritingsRead policy }
     ensures fits { (policy : Policy) (J : Journal) (T spare : ℕ) (os : List Order) → BatchesFit policy J T spare os }
 {
-    8
 }

@@ -1,2 +1,3 @@
 pub mod Lettered
 pub mod Only
+pub mod Kindless

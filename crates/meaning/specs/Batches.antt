@@ -1,14 +1,17 @@
 -- Chains and batches: which answer each order gets, and which entries join the journal.
-use Rattle.std.specs.Prelude.{ℕ, ◌+◌, ◌-◌, Bool, false, cond, List, [], ◌∷◌, ◌++◌, map, length, replicate, Some, None, Option, nat_lt, slice_set}
+use Rattle.std.specs.Prelude.{ℕ, ◌+◌, ◌-◌, Bool, false, cond, List, [], ◌∷◌, ◌++◌, map, length, replicate, Some, None, Ok, Err, Option, Result, nat_lt, slice_set}
 use Rattle.meaning.specs.declared.order.Order.{Order}
 use Rattle.meaning.specs.declared.record.Record.{Record}
 use Rattle.meaning.specs.declared.refusal.Refusal.{Refusal}
 use Rattle.meaning.specs.declared.refusal.Refusal.TheVariants.{ChainRefused, ChainUnfinished, ChainTooLong, ChainOverSpare, AnswersTooShort}
-use Rattle.meaning.specs.declared.refusal.Answer.{Answer}
-use Rattle.meaning.specs.declared.refusal.Answer.TheVariants.{Taken, Refused}
+use Rattle.meaning.specs.declared.answers.Stop.{Stop}
 use Rattle.meaning.specs.Given.{Journal}
 use Rattle.meaning.specs.Basics.{sum_of, first_of}
 use Rattle.meaning.specs.Rules.{Policy, leg_refused, leg_writes}
+
+-- what an order is answered
+abbrev pub Answer : Type 0
+Answer = Result (Unit {0}) Refusal
 
 -- An order with the linked mark belongs to the chain of the order after it.
 
@@ -26,17 +29,13 @@ unfinished [] = false
 unfinished (o ∷ []) = o.linked
 unfinished (o ∷ (p ∷ os)) = unfinished (p ∷ os)
 
--- the first refused leg: its place and why; each leg sees the earlier ones
-pub record Stop : Type 0 where
-  pub place : ℕ
-  pub why : Refusal
-
+-- the first refused leg; each leg sees the earlier ones
 abbrev pub later : Option Stop → Option Stop
 later None = None
-later (Some s) = Some (record { place = s.place + 1; why = s.why })
+later (Some s) = Some (record { place = s.place + 1; refusal = s.refusal })
 
 abbrev pub stop_if : Option Refusal → Option Stop → Option Stop
-stop_if (Some r) rest = Some (record { place = 0; why = r })
+stop_if (Some r) rest = Some (record { place = 0; refusal = r })
 stop_if None rest = later rest
 
 abbrev pub first_refused : Policy → Journal → ℕ → List Order → Option Stop
@@ -53,17 +52,17 @@ all_are a os = record { answers = replicate (length os) a; entries = [] }
 
 -- one order its own answer, the others that their chain was refused
 abbrev pub but_one : ℕ → Refusal → List Order → Outcome
-but_one i r os = record { answers = slice_set (replicate (length os) (Refused ChainRefused)) i (Refused r); entries = [] }
+but_one i r os = record { answers = slice_set (replicate (length os) (Err ChainRefused)) i (Err r); entries = [] }
 
 abbrev pub by_legs : ℕ → List Order → Option Stop → Outcome
-by_legs T os None = record { answers = replicate (length os) Taken; entries = map (leg_writes T) os }
-by_legs T os (Some s) = but_one s.place s.why os
+by_legs T os None = record { answers = replicate (length os) (Ok tt); entries = map (leg_writes T) os }
+by_legs T os (Some s) = but_one s.place s.refusal os
 
 abbrev pub chain : Policy → Journal → (T spare : ℕ) → List Order → Outcome
 chain policy J T spare os =
     cond (unfinished os) (but_one (length os - 1) ChainUnfinished os)
-    (cond (nat_lt 16 (length os)) (all_are (Refused ChainTooLong) os)
-    (cond (nat_lt spare (length os)) (all_are (Refused ChainOverSpare) os)
+    (cond (nat_lt 16 (length os)) (all_are (Err ChainTooLong) os)
+    (cond (nat_lt spare (length os)) (all_are (Err ChainOverSpare) os)
     (by_legs T os (first_refused policy J T os))))
 
 -- J after these entries
@@ -85,8 +84,8 @@ batch policy J T spare os = in_turn policy J T spare (chains os)
 
 -- how many orders were taken
 abbrev pub is_taken : Answer → ℕ
-is_taken Taken = 1
-is_taken (Refused r) = 0
+is_taken (Ok x) = 1
+is_taken (Err r) = 0
 
 abbrev pub taken : Outcome → ℕ
 taken x = sum_of is_taken x.answers

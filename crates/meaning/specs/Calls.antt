@@ -6,12 +6,11 @@ use Rattle.meaning.specs.declared.opening.Opening.{Opening}
 use Rattle.meaning.specs.declared.order.Order.{Order}
 use Rattle.meaning.specs.declared.record.Record.{Record}
 use Rattle.meaning.specs.declared.refusal.Refusal.{Refusal}
-use Rattle.meaning.specs.declared.refusal.Answer.{Answer}
 use Rattle.meaning.specs.declared.reservation.Reservation.{Reservation}
 use Rattle.meaning.specs.Basics.{or_else}
 use Rattle.meaning.specs.Given.{Journal}
 use Rattle.meaning.specs.Rules.{Policy, opening_refused, opening_writes}
-use Rattle.meaning.specs.Batches.{Outcome, batch, batch_refused}
+use Rattle.meaning.specs.Batches.{Answer, Outcome, batch, batch_refused}
 use Rattle.meaning.specs.Moves.{lapsed, next_deadline, move_refused}
 use Rattle.meaning.specs.Reading.{reading, stopped_refused}
 use Rattle.meaning.specs.Questions.{Standing, account_asked, reservation_asked}

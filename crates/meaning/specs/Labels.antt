@@ -1,5 +1,6 @@
 -- What a label is: 1 to 8 letters, digits or hyphens, filled to 8 bytes with spaces, as one number.
 use Rattle.std.specs.Prelude.{ℕ, ◌+◌, ◌-◌, ◌*◌, ◌/◌, ◌%◌, ◌^◌, Bool, true, false, cond, ◌&&◌, ◌||◌, List, [], ◌∷◌, ◌++◌, length, replicate, ◌==◌, nat_le, nat_lt, slice_index}
+use Rattle.std.specs.List.{list_all}
 
 -- the eight bytes of a number, the highest first
 abbrev pub bytes8 : ℕ → List ℕ
@@ -17,8 +18,7 @@ letter b = (nat_le 65 b && nat_le b 90) || (nat_le 48 b && nat_le b 57) || b == 
 
 -- nothing but spaces
 abbrev pub filling : List ℕ → Bool
-filling [] = true
-filling (b ∷ bs) = b == 32 && filling bs
+filling bs = list_all (λ b. b == 32) bs
 
 -- letters, and then nothing but spaces
 abbrev pub lettered : List ℕ → Bool

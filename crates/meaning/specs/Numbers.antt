@@ -1,9 +1,7 @@
--- The number of each refusal, and of an order's answer.
-use Rattle.std.specs.Prelude.{ℕ}
+-- The number of each refusal, and of an answer.
+use Rattle.std.specs.Prelude.{ℕ, Ok, Err, Result}
 use Rattle.meaning.specs.declared.refusal.Refusal.{Refusal}
 use Rattle.meaning.specs.declared.refusal.Refusal.TheVariants.{ReadingStopped, ChainRefused, ChainUnfinished, ChainTooLong, ChainOverSpare, AnswersTooShort, ChainMoment, OrderNumber, Amount, DebitUnknown, CreditUnknown, SameAccount, LedgersDiffer, TopPassed, DebitNotAdmitted, CreditNotAdmitted, ReservationsFull, ReservationUnknown, AlreadyPosted, AlreadyVoided, AlreadyLapsed, PostAmount, AccountNumber, Ledger, Limit, LabelMalformed, AccountsFull, JournalFull, AccountNotAdmitted, MomentTooLate, MomentEarlier, LapsesTooShort, BufferTooShort}
-use Rattle.meaning.specs.declared.refusal.Answer.{Answer}
-use Rattle.meaning.specs.declared.refusal.Answer.TheVariants.{Taken, Refused}
 
 abbrev pub number_of : Refusal → ℕ
 number_of ReadingStopped = 10
@@ -40,7 +38,7 @@ number_of MomentEarlier = 52
 number_of LapsesTooShort = 53
 number_of BufferTooShort = 56
 
--- 0 for an order that was taken
-abbrev pub answer_of : Answer → ℕ
-answer_of Taken = 0
-answer_of (Refused r) = number_of r
+-- 0 for what was taken
+abbrev pub answer_of : {X : Type 0} → Result X Refusal → ℕ
+answer_of (Ok x) = 0
+answer_of (Err r) = number_of r

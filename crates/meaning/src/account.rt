@@ -15,6 +15,7 @@ pub struct Account {
     pub totals: Totals,
 }
 
+// Each side keeps its own name, as the rules have them; what a side does is written once, in `Side`.
 impl Account {
     // Debits more, pending and posted, where the debit side takes both.
     pub fn debit(&mut self, pending: u64, posted: u64)

@@ -2,7 +2,8 @@
 use crate::fate::Fate;
 use crate::opening::Opening;
 use crate::order::{Action, Order};
-use crate::refusal::Answer;
+use crate::refusal::Refusal;
+use std::error::Error;
 use std::fmt;
 
 impl fmt::Display for Order {
@@ -57,13 +58,14 @@ impl fmt::Display for Opening {
     }
 }
 
-// 0, or the refusal's number.
-impl fmt::Display for Answer {
+// The refusal's number.
+impl fmt::Display for Refusal {
     fn fmt<W: fmt::Write>(&self, f: &mut fmt::Formatter<W>) -> fmt::Result {
-        let number = self.number();
-        write!(f, "{number}")
+        write!(f, "{}", self.number())
     }
 }
+
+impl Error for Refusal {}
 
 impl fmt::Display for Fate {
     fn fmt<W: fmt::Write>(&self, f: &mut fmt::Formatter<W>) -> fmt::Result {

@@ -9,7 +9,8 @@ pub enum Action {
         credit: u32,
         amount: u64,
     },
-    // Sets an amount aside, until it is posted, voided or, where the duration is not 0, too old.
+    // Sets an amount aside, until it is posted, voided or, where the duration is not 0, too old. An `Option` would
+    // leave that 0, which the rules have, a second meaning.
     Reserve {
         debit: u32,
         credit: u32,

@@ -1,9 +1,9 @@
-// Why a call or a leg is turned down, and what an order is answered.
+// Why a call or a leg is turned down.
 ghost use Rattle.std.specs.Prelude.{◌≡◌};
-ghost use Rattle.meaning.specs.Numbers.{number_of, answer_of};
+ghost use Rattle.meaning.specs.Numbers.{number_of};
 
 // Each case has the number by which formats, lists and papers know it.
-#[derive(Clone, Copy)]
+#[derive(Clone, Copy, Debug, PartialEq, Eq)]
 pub enum Refusal {
     // The journal could not be read through, so the book takes no calls.
     ReadingStopped = 10,
@@ -78,24 +78,5 @@ impl Refusal {
         ensures { result ≡ number_of self }
     {
         self as u8
-    }
-}
-
-// What an order of a batch is answered.
-#[derive(Clone, Copy)]
-pub enum Answer {
-    Taken,
-    Refused(Refusal),
-}
-
-impl Answer {
-    // 0, or the refusal's number.
-    pub fn number(self) -> u8
-        ensures { result ≡ answer_of self }
-    {
-        match self {
-            Answer::Taken => 0,
-            Answer::Refused(refusal) => refusal.number(),
-        }
     }
 }

@@ -11,7 +11,7 @@ pub struct Reservation {
     pub debit: u32,
     pub credit: u32,
     pub amount: u64,
-    // 0 stands for no deadline.
+    // 0 stands for no deadline, as in the rules and in a record's bytes; an `Option` would leave that 0 a second meaning.
     pub deadline: u64,
     pub fate: Fate,
 }
@@ -28,9 +28,6 @@ impl Reservation {
     pub fn is_due(&self, moment: u64) -> bool
         ensures { result ≡ (is_live self.now.fate && due self.now.deadline moment) }
     {
-        match self.fate {
-            Fate::Live => self.deadline != 0 && self.deadline <= moment,
-            Fate::Posted | Fate::Voided | Fate::Lapsed => false,
-        }
+        self.fate == Fate::Live && self.deadline != 0 && self.deadline <= moment
     }
 }

@@ -15,24 +15,17 @@ fn is_letter(byte: u8) -> bool
 fn is_filling(bytes: &[u8]) -> bool
     ensures { result ≡ filling bytes.now }
 {
-    for byte in bytes {
-        if *byte != b' ' {
-            return false;
-        }
-    }
-    true
+    bytes.iter().all(|byte| *byte == b' ')
 }
 
 // Letters, and then nothing but spaces.
 fn is_lettered(bytes: &[u8]) -> bool
     ensures { result ≡ lettered bytes.now }
 {
-    for (i, byte) in bytes.iter().enumerate() {
-        if !is_letter(*byte) {
-            return is_filling(&bytes[i..]);
-        }
+    match bytes {
+        [byte, rest @ ..] if is_letter(*byte) => is_lettered(rest),
+        _ => is_filling(bytes),
     }
-    true
 }
 
 // Whether a number is a label.
