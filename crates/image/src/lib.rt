@@ -6,5 +6,4 @@ ghost use Rattle.image.specs.Image.{ImageKeeps};
 // The image keeps its seven laws.
 pub fn image_keeps()
     ensures { ImageKeeps }
-{
-}
+{}

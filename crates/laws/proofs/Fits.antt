@@ -1,14 +1,14 @@
 -- A batch answers each order, and writes no more than the journal takes.
-use Rattle.std.proofs.Common.{◌≡◌, ℕ, ◌+◌, ◌-◌, ◌≤◌, Bool, true, false, cond, ltb, List, [], ◌∷◌, length, replicate, Some, None, Option, refl, ◌∙◌, arith}
+use Rattle.std.proofs.Common.{◌≡◌, ℕ, ◌+◌, ◌-◌, ◌≤◌, Bool, true, false, cond, ltb, List, [], ◌∷◌, length, replicate, Some, None, Option, refl, ◌∙◌, arith, Ok, Err}
 use Rattle.std.proofs.lemmas.List.{length-append, length-map, length-replicate, length-set}
 use Rattle.std.proofs.lemmas.Bool.{ltb-false}
 use Rattle.meaning.specs.declared.order.Order.{Order}
-use Rattle.meaning.specs.declared.refusal.Answer.{Answer}
 use Rattle.meaning.specs.declared.refusal.Refusal.{Refusal}
 use Rattle.meaning.specs.Basics.{sum_of}
 use Rattle.meaning.specs.Given.{Journal}
 use Rattle.meaning.specs.Rules.{Policy, leg_writes}
-use Rattle.meaning.specs.Batches.{joins, chains, Stop, first_refused, unfinished, Outcome, all_are, but_one, by_legs, chain, grown, in_turn}
+use Rattle.meaning.specs.declared.answers.Stop.{Stop}
+use Rattle.meaning.specs.Batches.{joins, chains, first_refused, unfinished, Outcome, all_are, but_one, by_legs, chain, grown, in_turn, Answer}
 use Rattle.laws.specs.Laws.{BatchesFit}
 
 joins_total : (o : Order) (cs : List (List Order)) → sum_of length (joins o cs) ≡ 1 + sum_of length cs
@@ -33,11 +33,11 @@ module _ (os : List Order) (spare : ℕ) where
   all_fit a = record { answered = length-replicate (length os) a; within = omega arith }
 
   but_one_fits : (i : ℕ) (r : Refusal) → Fits os spare (but_one i r os)
-  but_one_fits i r = record { answered = length-set (replicate (length os) (Answer.Refused Refusal.ChainRefused)) i (Answer.Refused r) ∙ length-replicate (length os) (Answer.Refused Refusal.ChainRefused); within = omega arith }
+  but_one_fits i r = record { answered = length-set (replicate (length os) (Err Refusal.ChainRefused)) i (Err r) ∙ length-replicate (length os) (Err Refusal.ChainRefused); within = omega arith }
 
   legs_fit : (T : ℕ) (s : Option Stop) → length os ≤ spare → Fits os spare (by_legs T os s)
-  legs_fit T None le = record { answered = length-replicate (length os) Answer.Taken; within = omega (arith, length-map os (leg_writes T)) }
-  legs_fit T (Some s) le = but_one_fits s.place s.why
+  legs_fit T None le = record { answered = length-replicate (length os) (Ok tt); within = omega (arith, length-map os (leg_writes T)) }
+  legs_fit T (Some s) le = but_one_fits s.place s.refusal
 
   either : (b : Bool) (x y : Outcome) → Fits os spare x → (b ≡ false → Fits os spare y) → Fits os spare (cond b x y)
   either true x y px py = px
@@ -45,7 +45,7 @@ module _ (os : List Order) (spare : ℕ) where
 
   chain_fits : (policy : Policy) (J : Journal) (T : ℕ) → Fits os spare (chain policy J T spare os)
   chain_fits policy J T =
-      either (unfinished os) _ _ (but_one_fits (length os - 1) Refusal.ChainUnfinished) (λ _. either (ltb 16 (length os)) _ _ (all_fit (Answer.Refused Refusal.ChainTooLong)) (λ _. either (ltb spare (length os)) _ _ (all_fit (Answer.Refused Refusal.ChainOverSpare)) (λ le. legs_fit T (first_refused policy J T os) (ltb-false spare (length os) le))))
+      either (unfinished os) _ _ (but_one_fits (length os - 1) Refusal.ChainUnfinished) (λ _. either (ltb 16 (length os)) _ _ (all_fit (Err Refusal.ChainTooLong)) (λ _. either (ltb spare (length os)) _ _ (all_fit (Err Refusal.ChainOverSpare)) (λ le. legs_fit T (first_refused policy J T os) (ltb-false spare (length os) le))))
 
 module _ (policy : Policy) (T : ℕ) where
   in_turn_answered : (J : Journal) (spare : ℕ) (cs : List (List Order)) → length (in_turn policy J T spare cs).answers ≡ sum_of length cs

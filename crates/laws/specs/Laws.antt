@@ -1,9 +1,8 @@
 -- The laws of the definitions, each under a name that says it.
-use Rattle.std.specs.Prelude.{◌≡◌, ℕ, ◌≤◌, Bool, List, [], ◌∷◌, length, None}
+use Rattle.std.specs.Prelude.{◌≡◌, ℕ, ◌≤◌, Bool, List, [], ◌∷◌, length, None, Ok}
 use Rattle.meaning.specs.declared.record.Record.{Record}
 use Rattle.meaning.specs.declared.opening.Opening.{Opening}
 use Rattle.meaning.specs.declared.order.Order.{Order}
-use Rattle.meaning.specs.declared.answers.Reading.TheVariants.{Through}
 use Rattle.meaning.specs.Given.{Journal, Reserved, latest}
 use Rattle.meaning.specs.Rules.{Policy, opening_refused, opening_writes}
 use Rattle.meaning.specs.Batches.{grown, batch}
@@ -34,7 +33,7 @@ AccountsAreAdmitted = (policy : Policy) → Lawful policy → (J : Journal) → 
 
 -- an empty journal is read through, and what calls write goes on being read through
 pub record WritingsRead (policy : Policy) : Type 0 where
-  pub by_nothing : reading policy [] ≡ Through
+  pub by_nothing : reading policy [] ≡ Ok tt
   pub by_opening : (J : Journal) (T : ℕ) (full : Bool) (A : Opening) → Ready policy J T → opening_refused policy J full A ≡ None → Ready policy (opening_writes T A ∷ J) T
   pub by_batch : (J : Journal) (T spare : ℕ) (os : List Order) → Ready policy J T → Ready policy (grown J (batch policy J T spare os).entries) T
 

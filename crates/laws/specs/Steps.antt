@@ -1,10 +1,9 @@
 -- What one more entry changes, and what a later moment changes: exactly this, and nothing else.
-use Rattle.std.specs.Prelude.{◌≡◌, ℕ, ◌+◌, ◌≤◌, true, cond, not, ◌&&◌, List, [], ◌∷◌, Some, None, ◌==◌}
+use Rattle.std.specs.Prelude.{◌≡◌, ℕ, ◌+◌, ◌≤◌, true, cond, not, ◌&&◌, List, [], ◌∷◌, Some, None, ◌==◌, Ok}
 use Rattle.meaning.specs.declared.content.Content.{Content}
 use Rattle.meaning.specs.declared.content.Content.TheVariants.{Account, Transfer, Reserve, Post, Void}
 use Rattle.meaning.specs.declared.record.Record.{Record}
 use Rattle.meaning.specs.declared.order.Order.{Order}
-use Rattle.meaning.specs.declared.answers.Reading.TheVariants.{Through}
 use Rattle.meaning.specs.Basics.{at}
 use Rattle.meaning.specs.declared.fate.Fate.TheVariants.{Lapsed}
 use Rattle.meaning.specs.Given.{Journal, Reserved, reservations, the_reservation, ended_by, decided, due, fate, is_live, latest, Side, pick, through, pending, posted}
@@ -13,7 +12,7 @@ use Rattle.meaning.specs.Reading.{read_so_far, reading}
 
 -- each entry of J passes its rules over those before it
 abbrev pub Reads : Policy → Journal → Type 0
-Reads policy J = read_so_far policy J ≡ Through
+Reads policy J = read_so_far policy J ≡ Ok tt
 
 -- reservation r of J is R, and live
 pub record Alive (J : Journal) (T r : ℕ) (R : Reserved) : Type 0 where
@@ -43,7 +42,7 @@ pub record Stepwise (policy : Policy) (J : Journal) (T : ℕ) : Type 0 where
 
 -- J is read through, no chain left unfinished, and T is not before its last moment: what a book goes on from
 pub record Ready (policy : Policy) (J : Journal) (T : ℕ) : Type 0 where
-  pub through : reading policy J ≡ Through
+  pub through : reading policy J ≡ Ok tt
   pub in_time : latest J ≤ T
 
 -- the orders of a chain all have the mark, but perhaps the last

@@ -17,5 +17,4 @@ pub fn laws_hold()
     ensures admitted { AccountsAreAdmitted }
     ensures writings { (policy : Policy) → WritingsRead policy }
     ensures fits { (policy : Policy) (J : Journal) (T spare : ℕ) (os : List Order) → BatchesFit policy J T spare os }
-{
-}
+{}

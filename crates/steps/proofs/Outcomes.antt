@@ -1,13 +1,12 @@
 -- What a finished chain comes to, case by case.
-use Rattle.std.proofs.Common.{◌≡◌, ℕ, zero, suc, ◌<◌, ◌≤◌, false, List, [], ◌∷◌, length, set, replicate, Option, sym, refl, ap, ◌∙◌, subst, arith}
+use Rattle.std.proofs.Common.{◌≡◌, ℕ, zero, suc, ◌<◌, ◌≤◌, false, List, [], ◌∷◌, length, set, replicate, Option, sym, refl, ap, ◌∙◌, subst, arith, Ok, Err}
 use Rattle.std.proofs.lemmas.Bool.{lt-ltb, le-ltb}
 use Rattle.meaning.specs.declared.order.Order.{Order}
 use Rattle.meaning.specs.declared.refusal.Refusal.{Refusal}
 use Rattle.meaning.specs.declared.refusal.Refusal.TheVariants.{ChainTooLong, ChainOverSpare}
-use Rattle.meaning.specs.declared.refusal.Answer.{Answer}
-use Rattle.meaning.specs.declared.refusal.Answer.TheVariants.{Taken, Refused}
 use Rattle.meaning.specs.Basics.{sum_of}
-use Rattle.meaning.specs.Batches.{unfinished, Stop, first_refused, Outcome, all_are, by_legs, chain, grown, is_taken, taken}
+use Rattle.meaning.specs.declared.answers.Stop.{Stop}
+use Rattle.meaning.specs.Batches.{unfinished, first_refused, Outcome, all_are, by_legs, chain, grown, is_taken, taken, Answer}
 use Rattle.meaning.specs.Given.{Journal}
 use Rattle.meaning.specs.Rules.{Policy}
 use Rattle.journal.specs.declared.journal.Journal as journal
@@ -20,25 +19,25 @@ use Rattle.steps.specs.Chained.{Tied, Chained}
 use Rattle.steps.specs.Written.{journal_of, Wrote}
 use Rattle.steps.proofs.Writes.{wrote_none}
 
-pub none_taken : (n : ℕ) (r : Refusal) → sum_of is_taken (replicate n (Refused r)) ≡ 0
+pub none_taken : (n : ℕ) (r : Refusal) → sum_of is_taken (replicate n (Err r)) ≡ 0
 none_taken zero r = refl
 none_taken (suc n) r = omega (arith, none_taken n r)
 
-pub all_taken : (n : ℕ) → sum_of is_taken (replicate n Taken) ≡ n
+pub all_taken : (n : ℕ) → sum_of is_taken (replicate n (Ok tt)) ≡ n
 all_taken zero = refl
 all_taken (suc n) = omega (arith, all_taken n)
 
 -- one more refusal among refusals
-pub still_none : (ans : List Answer) (i : ℕ) (r : Refusal) → sum_of is_taken ans ≡ 0 → sum_of is_taken (set ans i (Refused r)) ≡ 0
+pub still_none : (ans : List Answer) (i : ℕ) (r : Refusal) → sum_of is_taken ans ≡ 0 → sum_of is_taken (set ans i (Err r)) ≡ 0
 still_none [] i r e = refl
 still_none (a ∷ ans) zero r e = omega arith
 still_none (a ∷ ans) (suc i) r e = omega (arith, still_none ans i r (omega arith))
 
 module _ (policy : Policy) (J : Journal) (T spare : ℕ) (os : List Order) (u : unfinished os ≡ false) where
-  pub too_long : 16 < length os → chain policy J T spare os ≡ all_are (Refused ChainTooLong) os
+  pub too_long : 16 < length os → chain policy J T spare os ≡ all_are (Err ChainTooLong) os
   too_long lt = let l = lt-ltb 16 (length os) lt in rw (u, l)
 
-  pub over_spare : length os ≤ 16 → spare < length os → chain policy J T spare os ≡ all_are (Refused ChainOverSpare) os
+  pub over_spare : length os ≤ 16 → spare < length os → chain policy J T spare os ≡ all_are (Err ChainOverSpare) os
   over_spare le lt = let l = le-ltb 16 (length os) le in let s = lt-ltb spare (length os) lt in rw (u, l, s)
 
   pub by_legs_lem : length os ≤ 16 → length os ≤ spare → (s : Option Stop) → first_refused policy J T os ≡ s → chain policy J T spare os ≡ by_legs T os s

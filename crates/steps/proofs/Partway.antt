@@ -9,10 +9,8 @@ use Rattle.std.proofs.lemmas.Bool.{le-ltb, lt-ltb}
 use Rattle.meaning.specs.declared.order.Order.{Order}
 use Rattle.meaning.specs.declared.record.Record.{Record}
 use Rattle.meaning.specs.declared.refusal.Refusal.TheVariants.{ChainRefused, ChainUnfinished, AnswersTooShort}
-use Rattle.meaning.specs.declared.refusal.Answer.{Answer}
-use Rattle.meaning.specs.declared.refusal.Answer.TheVariants.{Refused}
 use Rattle.meaning.specs.Basics.{sum_of, first_of}
-use Rattle.meaning.specs.Batches.{chains, unfinished, Outcome, but_one, chain, and_then, in_turn, batch, is_taken, taken, batch_refused}
+use Rattle.meaning.specs.Batches.{chains, unfinished, Outcome, but_one, chain, and_then, in_turn, batch, is_taken, taken, batch_refused, Answer}
 use Rattle.meaning.specs.Calls.{answered, unless, over}
 use Rattle.meaning.specs.Given.{Journal}
 use Rattle.meaning.specs.Rules.{Policy}
@@ -118,13 +116,13 @@ module _ {J : Type 0} (j : journal.Ghosts J) (policy : Policy) (T : ℕ) (x : J)
           }
 
 -- orders that all have the mark, at the end of a batch: the last is told that its chain is unfinished
-unfinished_out : (policy : Policy) (K : Journal) (T s : ℕ) (xs : List Order) → All Linked xs → in_turn policy K T s (chains xs) ≡ outcome (set (replicate (length xs) (Refused ChainRefused)) (length xs - 1) (Refused ChainUnfinished)) []
+unfinished_out : (policy : Policy) (K : Journal) (T s : ℕ) (xs : List Order) → All Linked xs → in_turn policy K T s (chains xs) ≡ outcome (set (replicate (length xs) (Err ChainRefused)) (length xs - 1) (Err ChainUnfinished)) []
 unfinished_out policy K T s [] h = refl
 unfinished_out policy K T s (o ∷ xs) h =
     let u = all_unfinished o xs h in
     ap (in_turn policy K T s) (one_chain o xs h)
     ∙ (ap (λ (w : Outcome). and_then w (outcome [] [])) (ended u)
-    ∙ ap (λ ans. outcome ans []) (append-nil (set (replicate (length (o ∷ xs)) (Refused ChainRefused)) (length (o ∷ xs) - 1) (Refused ChainUnfinished))))
+    ∙ ap (λ ans. outcome ans []) (append-nil (set (replicate (length (o ∷ xs)) (Err ChainRefused)) (length (o ∷ xs) - 1) (Err ChainUnfinished))))
   where
     ended : unfinished (o ∷ xs) ≡ true → chain policy K T s (o ∷ xs) ≡ but_one (length (o ∷ xs) - 1) ChainUnfinished (o ∷ xs)
     ended u = rw u
@@ -132,7 +130,7 @@ unfinished_out policy K T s (o ∷ xs) h =
 module _ {J : Type 0} (j : journal.Ghosts J) (policy : Policy) (T : ℕ) (x : J) (os : List Order) (ans0 : List Answer) (enough : length os ≤ length ans0) where
   -- after the last order, with the answers of an unfinished chain put in
   module _ (start i n : ℕ) (ans told : List Answer) (b : Balances) (y : J) (le : start ≤ length os) (past : length os ≤ i) (kept : length ans ≡ length ans0) (W : Partway j policy T x os ans0 start i n ans b y)
-      (ended : told ≡ set (replicate (length os - start) (Refused ChainRefused)) (length os - start - 1) (Refused ChainUnfinished)) where
+      (ended : told ≡ set (replicate (length os - start) (Err ChainRefused)) (length os - start - 1) (Err ChainUnfinished)) where
     abbrev all : Outcome
     all = batch policy (journal_of j x) T (j.spare x) os
 
@@ -140,17 +138,17 @@ module _ {J : Type 0} (j : journal.Ghosts J) (policy : Policy) (T : ℕ) (x : J)
     rest_long = length-drop start os
 
     told_long : length told ≡ length os - start
-    told_long = ap length ended ∙ (length-set (replicate (length os - start) (Refused ChainRefused)) (length os - start - 1) (Refused ChainUnfinished) ∙ length-replicate (length os - start) (Refused ChainRefused))
+    told_long = ap length ended ∙ (length-set (replicate (length os - start) (Err ChainRefused)) (length os - start - 1) (Err ChainUnfinished) ∙ length-replicate (length os - start) (Err ChainRefused))
 
     told_none : sum_of is_taken told ≡ 0
-    told_none = ap (sum_of is_taken) ended ∙ still_none (replicate (length os - start) (Refused ChainRefused)) (length os - start - 1) ChainUnfinished (none_taken (length os - start) ChainRefused)
+    told_none = ap (sum_of is_taken) ended ∙ still_none (replicate (length os - start) (Err ChainRefused)) (length os - start - 1) ChainUnfinished (none_taken (length os - start) ChainRefused)
 
     all_is : all ≡ outcome (take start ans ++ told) (W.new ++ [])
     all_is =
         let every : take (i - start) (drop start os) ≡ drop start os = take_all (i - start) (drop start os) (omega (arith, rest_long)) in
         W.out ∙ ap (and_then (outcome (take start ans) W.new))
         (unfinished_out policy (journal_of j y) T (j.spare y) (drop start os) (subst (All Linked) every W.marked)
-        ∙ (ap (λ m. outcome (set (replicate m (Refused ChainRefused)) (m - 1) (Refused ChainUnfinished)) []) rest_long ∙ ap (λ w. outcome w []) (sym ended)))
+        ∙ (ap (λ m. outcome (set (replicate m (Err ChainRefused)) (m - 1) (Err ChainUnfinished)) []) rest_long ∙ ap (λ w. outcome w []) (sym ended)))
 
     passes : batch_refused os (length ans0) ≡ None
     passes = ap (λ t. first_of ((t, AnswersTooShort) ∷ [])) (le-ltb (length ans0) (length os) enough)

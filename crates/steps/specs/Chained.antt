@@ -2,9 +2,9 @@
 use Rattle.std.specs.Prelude.{◌≡◌, ℕ, ◌≤◌, true, List, [], map, length, is_ok, Some, None, Ok, Err, Option, Result}
 use Rattle.std.specs.List.{AllByRecursion}
 use Rattle.meaning.specs.declared.order.Order.{Order}
-use Rattle.meaning.specs.declared.refusal.Answer.{Answer}
 use Rattle.meaning.specs.declared.refusal.Refusal.{Refusal}
-use Rattle.meaning.specs.Batches.{Stop, first_refused, Outcome, grown, taken, batch_refused}
+use Rattle.meaning.specs.declared.answers.Stop.{Stop}
+use Rattle.meaning.specs.Batches.{first_refused, Outcome, grown, taken, batch_refused, Answer}
 use Rattle.meaning.specs.Calls.{answered, unless, over}
 use Rattle.meaning.specs.Given.{Journal}
 use Rattle.meaning.specs.Rules.{Policy, leg_writes}
@@ -15,16 +15,15 @@ use Rattle.balances.specs.Books.{books_of}
 use Rattle.balances.specs.Undone.{legs_of}
 use Rattle.laws.specs.Steps.{Ready}
 use Rattle.image.specs.Image.{image_of}
-use Rattle.steps.specs.declared.chains.RefusedLeg.{RefusedLeg}
 use Rattle.steps.specs.Written.{journal_of, Wrote}
 
 -- the first refused leg, if there is one
-abbrev pub stop_in : Result (Unit {0}) RefusedLeg → Option Stop
+abbrev pub stop_in : Result (Unit {0}) Stop → Option Stop
 stop_in (Ok x) = None
-stop_in (Err s) = Some (record { place = s.place; why = s.refusal })
+stop_in (Err s) = Some s
 
 -- the legs of a chain, run up to the first that the rules refuse; where there is none, the tables show J with them
-pub record Ran (policy : Policy) (J : Journal) (T : ℕ) (os : List Order) (r : Result (Unit {0}) RefusedLeg) (after : Balances) : Type 0 where
+pub record Ran (policy : Policy) (J : Journal) (T : ℕ) (os : List Order) (r : Result (Unit {0}) Stop) (after : Balances) : Type 0 where
   pub stop : stop_in r ≡ first_refused policy J T os
   pub tables : is_ok r ≡ true → books_of after ≡ image_of (grown J (map (leg_writes T) os)) T
   pub legs : is_ok r ≡ true → legs_of after ≡ length os

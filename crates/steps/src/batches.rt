@@ -1,6 +1,5 @@
 // Batches: the orders one after another, chain by chain.
 ghost use Rattle.std.specs.Prelude.{◌≡◌, ◌-◌, length, replicate, slice_set};
-ghost use Rattle.meaning.specs.declared.refusal.Answer.TheVariants.{Refused};
 ghost use Rattle.meaning.specs.declared.refusal.Refusal.TheVariants.{ChainRefused, ChainUnfinished};
 ghost use Rattle.meaning.specs.Batches.{batch};
 ghost use Rattle.steps.specs.Chained.{Tied, Batched};
@@ -14,7 +13,7 @@ use policy::Policy;
 
 // The orders of a chain with which the batch ends unfinished: the last is told so, and the others with it.
 fn refuse_unfinished(answers: &mut [Answer])
-    ensures { answers.new ≡ slice_set (replicate (length answers.old) (Refused ChainRefused)) (length answers.old - 1) (Refused ChainUnfinished) }
+    ensures { answers.new ≡ slice_set (replicate (length answers.old) (Err ChainRefused)) (length answers.old - 1) (Err ChainUnfinished) }
 {
     let last = answers.len().saturating_sub(1);
     refuse(answers, last, Refusal::ChainUnfinished);

@@ -1,9 +1,8 @@
-use Rattle.std.proofs.Common.{◌≡◌, suc, ◌+◌, ◌-◌, ◌<◌, false, length, get_or, take, drop, set, replicate, sym, ap, ◌∙◌, subst, arith}
+use Rattle.std.proofs.Common.{◌≡◌, suc, ◌+◌, ◌-◌, ◌<◌, false, length, get_or, take, drop, set, replicate, sym, ap, ◌∙◌, subst, arith, Err}
 use Rattle.std.proofs.lemmas.List.{length-drop, length-take-le, get_or-drop}
 use Rattle.meaning.specs.declared.order.Order.{Order}
 use Rattle.meaning.specs.declared.order.Action.TheVariants.{Transfer}
 use Rattle.meaning.specs.declared.refusal.Refusal.TheVariants.{ChainRefused, ChainUnfinished}
-use Rattle.meaning.specs.declared.refusal.Answer.TheVariants.{Refused}
 use Rattle.meaning.specs.Batches.{unfinished}
 use Rattle.laws.specs.Steps.{Fronted}
 use Rattle.steps.proofs.Partway.{partway_none, partway_mark, partway_chain, partway_all, partway_same, batch-refused}
@@ -70,4 +69,4 @@ returns g c = λ tied.
     let start = c.loop-i.start in
     let ans = c.loop-i.answers in
     let long = length-take-le (length os - start) (drop start ans) (omega (arith, length-drop start ans, c.loop-i.auto.answers)) in
-    partway_all g.J.Journal (g.P.Policy.admits c.args.policy.now) c.args.moment c.args.journal.now os c.args.answers.now c.if-answers-orders.false start c.loop-i.i c.loop-i.taken c.loop-i.answers c.refuse_unfinished.new.answers c.loop-i.balances c.loop-i.journal (omega arith) (omega arith) c.loop-i.auto.answers (inv.2 tied) (c.refuse_unfinished.ensures ∙ ap (λ m. set (replicate m (Refused ChainRefused)) (m - 1) (Refused ChainUnfinished)) long)
+    partway_all g.J.Journal (g.P.Policy.admits c.args.policy.now) c.args.moment c.args.journal.now os c.args.answers.now c.if-answers-orders.false start c.loop-i.i c.loop-i.taken c.loop-i.answers c.refuse_unfinished.new.answers c.loop-i.balances c.loop-i.journal (omega arith) (omega arith) c.loop-i.auto.answers (inv.2 tied) (c.refuse_unfinished.ensures ∙ ap (λ m. set (replicate m (Err ChainRefused)) (m - 1) (Err ChainUnfinished)) long)
