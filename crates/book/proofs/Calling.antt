@@ -2,8 +2,6 @@
 use Rattle.std.proofs.Common.{◌≡◌, ℕ, ◌<◌, ◌≤◌, eqb, List, [], ◌∷◌, length, Some, None, Ok, Err, Option, Result, sym, refl, ap, ◌∙◌, subst, arith}
 use Rattle.std.proofs.lemmas.Bool.{eqb-false}
 use Rattle.meaning.specs.declared.answers.Moved.{Moved}
-use Rattle.meaning.specs.declared.answers.Reading.{Reading}
-use Rattle.meaning.specs.declared.answers.Reading.TheVariants.{Through, Stopped}
 use Rattle.meaning.specs.declared.opening.Opening.{Opening}
 use Rattle.meaning.specs.declared.refusal.Refusal.{Refusal}
 use Rattle.meaning.specs.Calls.{answered, unless, over, moved, unread, opens_not, moves_not, account_seen, reservation_seen}
@@ -11,7 +9,7 @@ use Rattle.meaning.specs.Given.{Journal}
 use Rattle.meaning.specs.Listing.{listing}
 use Rattle.meaning.specs.Moves.{lapsed, move_refused}
 use Rattle.meaning.specs.Questions.{account_asked, reservation_asked}
-use Rattle.meaning.specs.Reading.{stopped_refused}
+use Rattle.meaning.specs.Reading.{stopped_refused, Reading}
 use Rattle.meaning.specs.Rules.{Policy, opening_checks, opening_refused, opening_writes}
 use Rattle.meaning.specs.Sound.{last}
 use Rattle.journal.specs.declared.journal.Journal as journal
@@ -107,8 +105,8 @@ module _ {J P : Type 0} (j : journal.Ghosts J) (p : policy.Ghosts P) (b : Book J
   seen {X} ask given nobody there s = go b.reading refl s.stands ∙ ap (λ x. unless (stopped_refused x) given None) s.reading
     where
       go : (x : Reading) → b.reading ≡ x → Stands x (journal_of j b.journal) b.moment (books_of b.balances) → ask (books_of b.balances) ≡ unless (stopped_refused b.reading) given None
-      go Through e w = there (record { is = e; through = sym s.reading ∙ e; runs = w }) ∙ sym (ap (λ x. unless (stopped_refused x) given None) e)
-      go (Stopped place why) e w = ap ask w.tables ∙ (nobody ∙ sym (ap (λ x. unless (stopped_refused x) given None) e))
+      go (Ok tt) e w = there (record { is = e; through = sym s.reading ∙ e; runs = w }) ∙ sym (ap (λ x. unless (stopped_refused x) given None) e)
+      go (Err s) e w = ap ask w.tables ∙ (nobody ∙ sym (ap (λ x. unless (stopped_refused x) given None) e))
 
   pub account_seen_lem : (n : ℕ) → Sound j p b → row_asked (books_of b.balances) n ≡ account_seen (policy_of j p b) (state_of j p b) n
   account_seen_lem n s = seen (λ k. row_asked k n) (account_asked (journal_of j b.journal) b.moment n) refl (λ R. ap (λ k. row_asked k n) R.runs.tables ∙ (asks (policy_of j p b) (journal_of j b.journal) (reads j p b R) b.moment).account n) s

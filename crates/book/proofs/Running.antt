@@ -1,14 +1,12 @@
 -- A book that was read through: what is known of it, and what keeps it so.
-use Rattle.std.proofs.Common.{◌≡◌, ℕ, ◌≤◌, List, [], None, Option, sym, refl, ap, ◌∙◌, subst, arith}
-use Rattle.meaning.specs.declared.answers.Reading.{Reading}
-use Rattle.meaning.specs.declared.answers.Reading.TheVariants.{Through, Stopped}
+use Rattle.std.proofs.Common.{◌≡◌, ℕ, ◌≤◌, List, [], None, Option, sym, refl, ap, ◌∙◌, subst, arith, Ok, Err}
 use Rattle.meaning.specs.declared.record.Record.{Record}
 use Rattle.meaning.specs.Basics.{or_else}
 use Rattle.meaning.specs.declared.refusal.Refusal.{Refusal}
 use Rattle.meaning.specs.Batches.{grown}
 use Rattle.meaning.specs.Calls.{unread}
 use Rattle.meaning.specs.Given.{latest}
-use Rattle.meaning.specs.Reading.{reading as reading_of, read_so_far, stopped_refused}
+use Rattle.meaning.specs.Reading.{reading as reading_of, read_so_far, stopped_refused, Reading}
 use Rattle.meaning.specs.Sound.{last}
 use Rattle.journal.specs.declared.journal.Journal as journal
 use Rattle.policy.specs.declared.policy.Policy as policy
@@ -26,8 +24,8 @@ use Rattle.reading.specs.Stands.{Runs, Stands}
 
 module _ {J P : Type 0} (j : journal.Ghosts J) (p : policy.Ghosts P) where
   pub record Running (b : Book J P) : Type 0 where
-    pub is : b.reading ≡ Through
-    pub through : reading_of (policy_of j p b) (journal_of j b.journal) ≡ Through
+    pub is : b.reading ≡ Ok tt
+    pub through : reading_of (policy_of j p b) (journal_of j b.journal) ≡ Ok tt
     pub runs : Runs (journal_of j b.journal) b.moment (books_of b.balances)
 
   -- a book with a past that does not refuse all calls was read through
@@ -35,8 +33,8 @@ module _ {J P : Type 0} (j : journal.Ghosts J) (p : policy.Ghosts P) where
   running b s free = go b.reading refl free s.stands
     where
       go : (x : Reading) → b.reading ≡ x → None ≡ stopped_refused x → Stands x (journal_of j b.journal) b.moment (books_of b.balances) → Running b
-      go Through e n w = record { is = e; through = sym s.reading ∙ e; runs = w }
-      go (Stopped place why) e n w = absurd (let z : ◌≡◌ {A = ℕ} 0 1 = cc in omega arith)
+      go (Ok tt) e n w = record { is = e; through = sym s.reading ∙ e; runs = w }
+      go (Err s) e n w = absurd (let z : ◌≡◌ {A = ℕ} 0 1 = cc in omega arith)
 
   module _ (b : Book J P) (R : Running b) where
     pub reads : Reads (policy_of j p b) (journal_of j b.journal)

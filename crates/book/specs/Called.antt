@@ -3,9 +3,8 @@ use Rattle.std.specs.Prelude.{◌≡◌, ℕ, List, [], length, Result}
 use Rattle.meaning.specs.declared.answers.Moved.{Moved}
 use Rattle.meaning.specs.declared.opening.Opening.{Opening}
 use Rattle.meaning.specs.declared.order.Order.{Order}
-use Rattle.meaning.specs.declared.refusal.Answer.{Answer}
 use Rattle.meaning.specs.declared.refusal.Refusal.{Refusal}
-use Rattle.meaning.specs.Batches.{taken}
+use Rattle.meaning.specs.Batches.{taken, Answer}
 use Rattle.meaning.specs.Calls.{answered, moved, opens_not, open_writes, runs_not, ran, run_writes, run_answers, moves_not, move_lapses, moved_to, reports_not, report_bytes}
 use Rattle.meaning.specs.Listing.{listing}
 use Rattle.meaning.specs.Reading.{reading as reading_of}

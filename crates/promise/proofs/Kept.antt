@@ -1,6 +1,5 @@
 -- A book that was read through keeps all that a book keeps.
-use Rattle.std.proofs.Common.{◌≡◌, sym, ap}
-use Rattle.meaning.specs.declared.answers.Reading.TheVariants.{Through}
+use Rattle.std.proofs.Common.{◌≡◌, sym, ap, Ok}
 use Rattle.meaning.specs.Policies.{Lawful}
 use Rattle.meaning.specs.Reading.{stopped_refused}
 use Rattle.journal.specs.declared.journal.Journal as journal
@@ -16,7 +15,7 @@ use Rattle.book.proofs.Running.{running, reads}
 use Rattle.promise.specs.Kept.{Keeps}
 
 module _ {J P : Type 0} (j : journal.Ghosts J) (p : policy.Ghosts P) (b : Book J P) (law : Lawful (policy_of j p b)) where
-  pub keeps_all : Sound j p b → b.reading ≡ Through → Keeps j p b
+  pub keeps_all : Sound j p b → b.reading ≡ Ok tt → Keeps j p b
   keeps_all s e =
       let R = running j p b s (sym (ap stopped_refused e)) in
       let K = journal_of j b.journal in

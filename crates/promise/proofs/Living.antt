@@ -1,6 +1,5 @@
 -- A whole run: the first book, and the second that takes over.
-use Rattle.std.proofs.Common.{◌≡◌, List, None, sym, ap, ◌∙◌, subst}
-use Rattle.meaning.specs.declared.answers.Reading.TheVariants.{Through}
+use Rattle.std.proofs.Common.{◌≡◌, List, None, sym, ap, ◌∙◌, subst, Ok}
 use Rattle.meaning.specs.declared.order.Order.{Order}
 use Rattle.meaning.specs.declared.record.Record.{Record}
 use Rattle.meaning.specs.Given.{latest}
@@ -36,8 +35,8 @@ pub record Lived {J P : Type 0} (j : journal.Ghosts J) (p : policy.Ghosts P) (ad
   pub wrote_past : Wrote j x (adds_all admits os (with_desk (beginning j admits x) before) past) A1.journal
   pub wrote_further : Wrote j A1.journal (adds_all admits os (with_desk (final admits os (with_desk (beginning j admits x) before) past).state mine) further) A2.journal
   pub reading_end : A2.reading ≡ reading_of admits (journal_of j x)
-  pub mid_through : reading_of admits (journal_of j x) ≡ Through → reading_of admits (journal_of j A1.journal) ≡ Through
-  pub mid_arrives : reading_of admits (journal_of j x) ≡ Through → move_refused (journal_of j A1.journal) (latest (journal_of j A1.journal)) A1.moment 256 ≡ None
+  pub mid_through : reading_of admits (journal_of j x) ≡ Ok tt → reading_of admits (journal_of j A1.journal) ≡ Ok tt
+  pub mid_arrives : reading_of admits (journal_of j x) ≡ Ok tt → move_refused (journal_of j A1.journal) (latest (journal_of j A1.journal)) A1.moment 256 ≡ None
 
 module _ {J P : Type 0} (j : journal.Ghosts J) (p : policy.Ghosts P) (os : List Order) (x : J) (y : P) (past further : List Call) (before mine before' mine' : Desk) (A A1 A2 : Book J P)
     (made : Created j p x y A) (one : CallsAll j p os A before past A1 before') (two : CallsAll j p os A1 mine further A2 mine') where
@@ -90,10 +89,10 @@ module _ {J P : Type 0} (j : journal.Ghosts J) (p : policy.Ghosts P) (os : List 
   end_reading = two.reading ∙ reading_mid
 
   -- what the second book needs to know of the first before the further calls
-  through_mid : reading_of admits (journal_of j x) ≡ Through → reading_of admits (journal_of j A1.journal) ≡ Through
+  through_mid : reading_of admits (journal_of j x) ≡ Ok tt → reading_of admits (journal_of j A1.journal) ≡ Ok tt
   through_mid h = ap (λ q. reading_of q (journal_of j A1.journal)) (sym policy_mid) ∙ (sym one.sound.reading ∙ (reading_mid ∙ h))
 
-  arrives_mid : reading_of admits (journal_of j x) ≡ Through → move_refused (journal_of j A1.journal) (latest (journal_of j A1.journal)) A1.moment 256 ≡ None
+  arrives_mid : reading_of admits (journal_of j x) ≡ Ok tt → move_refused (journal_of j A1.journal) (latest (journal_of j A1.journal)) A1.moment 256 ≡ None
   arrives_mid h =
       let R = running j p A1 one.sound (sym (ap stopped_refused (reading_mid ∙ h))) in
       arrives admits (journal_of j A1.journal) (not_stopped (read_so_far admits (journal_of j A1.journal)) _ (through_mid h)).0 (latest (journal_of j A1.journal)) A1.moment R.runs.in_time R.runs.bounded

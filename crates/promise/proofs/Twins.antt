@@ -1,7 +1,6 @@
 -- The second book: created over the list that the first has written, and moved to the first one's moment.
-use Rattle.std.proofs.Common.{◌≡◌, ℕ, List, [], ◌++◌, length, None, Result, sym, ap, ◌∙◌, subst, arith}
+use Rattle.std.proofs.Common.{◌≡◌, ℕ, List, [], ◌++◌, length, None, Result, sym, ap, ◌∙◌, subst, arith, Ok}
 use Rattle.meaning.specs.declared.answers.Moved.{Moved}
-use Rattle.meaning.specs.declared.answers.Reading.TheVariants.{Through}
 use Rattle.meaning.specs.declared.order.Order.{Order}
 use Rattle.meaning.specs.declared.record.Record.{Record}
 use Rattle.meaning.specs.declared.refusal.Refusal.{Refusal}
@@ -32,19 +31,19 @@ wrote_alike {new = new} u v e = v.entries ∙ (ap (λ es. es ++ entries_of new) 
 
 -- what is known of it in the end, over its journal x
 pub record Took {K Q : Type 0} (k : journal.Ghosts K) (q : policy.Ghosts Q) (admits : Policy) (from : State) (x : K) (os : List Order) (further : List Call) (mine theirs' : Desk) (B2 : Book K Q) : Type 0 where
-  pub reads_through : reading_of admits (journal_of k x) ≡ Through
+  pub reads_through : reading_of admits (journal_of k x) ≡ Ok tt
   pub ended : world_of k q B2 theirs' ≡ final admits os (with_desk from mine) further
   pub wrote_all : Wrote k x (adds_all admits os (with_desk from mine) further) B2.journal
-  pub still_through : B2.reading ≡ Through
+  pub still_through : B2.reading ≡ Ok tt
 
 module _ {K Q : Type 0} (k : journal.Ghosts K) (q : policy.Ghosts Q) (admits : Policy) (from : State) (x : K) (y : Q) (B B1 B2 : Book K Q) (os : List Order) (further : List Call) (mine theirs theirs' : Desk) (t : ℕ) (ls ls' : List ℕ) (r : Result Moved Refusal)
     (made : Created k q x y B) (went : MovedTo k q B t ls r ls' B1) (three : CallsAll k q os B1 theirs further B2 theirs')
     (same : q.admits y ≡ admits) (list : journal_of k x ≡ from.journal) (spare : k.spare x ≡ from.spare) (places : length ls ≡ 256) (at-t : t ≡ from.moment)
-    (through : reading_of admits from.journal ≡ Through) (arrives : move_refused from.journal (latest from.journal) from.moment 256 ≡ None) (alike : Alike mine theirs) where
-  through_x : reading_of admits (journal_of k x) ≡ Through
+    (through : reading_of admits from.journal ≡ Ok tt) (arrives : move_refused from.journal (latest from.journal) from.moment 256 ≡ None) (alike : Alike mine theirs) where
+  through_x : reading_of admits (journal_of k x) ≡ Ok tt
   through_x = ap (reading_of admits) list ∙ through
 
-  reading-first : B.reading ≡ Through
+  reading-first : B.reading ≡ Ok tt
   reading-first = made.reading ∙ (ap (λ a. reading_of a (journal_of k x)) same ∙ through_x)
 
   moment_first : B.moment ≡ latest from.journal
@@ -90,7 +89,7 @@ module _ {K Q : Type 0} (k : journal.Ghosts K) (q : policy.Ghosts Q) (admits : P
       wrote_then k x B1.journal B2.journal [] added (subst (λ v. Wrote k v [] B1.journal) made.journal went.after.journal)
       (subst (λ v. Wrote k B1.journal v B2.journal) (same-adds policy_moved begun os further) three.wrote)
 
-  end_through : B2.reading ≡ Through
+  end_through : B2.reading ≡ Ok tt
   end_through = three.reading ∙ (went.after.reading ∙ reading-first)
 
   pub took : Took k q admits from x os further mine theirs' B2

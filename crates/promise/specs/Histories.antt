@@ -1,6 +1,5 @@
 -- Whole runs: a book from its creation on, and a second one that takes over from what the first has written.
-use Rattle.std.specs.Prelude.{◌≡◌, List, [], ◌++◌, None}
-use Rattle.meaning.specs.declared.answers.Reading.TheVariants.{Through}
+use Rattle.std.specs.Prelude.{◌≡◌, List, [], ◌++◌, None, Ok}
 use Rattle.meaning.specs.declared.order.Order.{Order}
 use Rattle.meaning.specs.declared.record.Record.{Record}
 use Rattle.meaning.specs.Calls.{State}
@@ -38,7 +37,7 @@ module _ {J P K Q : Type 0} (j : journal.Ghosts J) (p : policy.Ghosts P) (k : jo
   -- the second book against the first, after the same further calls: from is what the first had come to before them
   pub record Twin (admits : Policy) (from : State) (new : List Record) (mine theirs : Desk) (x' : K) (b : Book J P) (b' : Book K Q) : Type 0 where
     -- its journal is read through, and with 256 places for lapses the move to the first book's moment is not refused
-    pub through : reading_of admits (journal_of k x') ≡ Through
+    pub through : reading_of admits (journal_of k x') ≡ Ok tt
     pub arrives : move_refused from.journal (latest from.journal) from.moment 256 ≡ None
     -- what its caller is told, its answers, lapses and bytes are the same
     pub alike : Alike mine theirs
@@ -72,9 +71,9 @@ module _ {J P K Q : Type 0} (j : journal.Ghosts J) (p : policy.Ghosts P) (k : jo
       pub first_told : with_desk (state_of j p b) mine' ≡ then_is
       pub wrote : Wrote j x (old ++ new) b.journal
       -- the one assumption: the journal was read through
-      pub keeps : reading_of admits (journal_of j x) ≡ Through → Keeps j p b
+      pub keeps : reading_of admits (journal_of j x) ≡ Ok tt → Keeps j p b
       -- a second book of the same policy, over a journal of any kind with the same list and spare
-      pub twin : reading_of admits (journal_of j x) ≡ Through → q.admits y' ≡ admits → k.entries x' ≡ j.entries x ++ entries_of old → k.spare x' ≡ then_was.state.spare → Alike mine theirs
+      pub twin : reading_of admits (journal_of j x) ≡ Ok tt → q.admits y' ≡ admits → k.entries x' ≡ j.entries x ++ entries_of old → k.spare x' ≡ then_was.state.spare → Alike mine theirs
           → Twin admits then_was.state new mine' theirs' x' b b'
       -- with no assumption at all
-      pub empty : reading_of admits [] ≡ Through
+      pub empty : reading_of admits [] ≡ Ok tt

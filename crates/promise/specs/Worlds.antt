@@ -2,8 +2,7 @@
 use Rattle.std.specs.Prelude.{ℕ, ◌-◌, Bool, true, cond, ◌&&◌, List, [], ◌∷◌, ◌++◌, length, slice_set}
 use Rattle.meaning.specs.declared.order.Order.{Order}
 use Rattle.meaning.specs.declared.record.Record.{Record}
-use Rattle.meaning.specs.declared.refusal.Answer.{Answer}
-use Rattle.meaning.specs.Batches.{grown, taken}
+use Rattle.meaning.specs.Batches.{grown, taken, Answer}
 use Rattle.meaning.specs.Calls.{State, answered, moved, opens_not, open_writes, runs_not, ran, run_writes, run_answers, moves_not, move_lapses, moved_to, reports_not, report_bytes, account_seen, reservation_seen}
 use Rattle.meaning.specs.Listing.{listing}
 use Rattle.meaning.specs.Reading.{reading as reading_of}
