@@ -1,5 +1,6 @@
 -- What calls make of the state of a book and of the lists on a desk, by the rules alone: one call, and one after another.
 use Rattle.std.specs.Prelude.{ℕ, ◌-◌, Bool, true, cond, ◌&&◌, List, [], ◌∷◌, ◌++◌, length, slice_set}
+use Rattle.std.specs.Option.{option_map}
 use Rattle.meaning.specs.declared.order.Order.{Order}
 use Rattle.meaning.specs.declared.record.Record.{Record}
 use Rattle.meaning.specs.Batches.{grown, taken, Answer}
@@ -11,9 +12,9 @@ use Rattle.promise.specs.declared.call.Ask.{Ask}
 use Rattle.promise.specs.declared.call.Ask.TheVariants.{Open, Run, Move, Report, Account, Reservation, Moment, Reading}
 use Rattle.promise.specs.declared.call.Call.{Call}
 use Rattle.promise.specs.declared.told.Told.{Told}
-use Rattle.promise.specs.declared.told.Told.TheVariants.{Moment as At, Ended}
+use Rattle.promise.specs.declared.told.Told.TheVariants.{Opened, Ran, Moved as MovedOn, Reported, Account as AccountTold, Reservation as ReservationTold, Moment as At, Reading as ReadingTold}
 use Rattle.promise.specs.Spans.{inside, part, lay}
-use Rattle.promise.specs.Telling.{told_opening, told_count, told_move, told_account, told_reservation}
+use Rattle.promise.specs.Telling.{statement_of}
 
 pub record World : Type 0 where
   pub state : State
@@ -39,14 +40,14 @@ module _ (policy : Policy) (orders : List Order) (w : World) where
   proper Reading = true
 
   abbrev pub tells : Ask → Told
-  tells (Open A) = told_opening (answered (opens_not policy w.state A) tt)
-  tells (Run os ans) = told_count (answered (runs_not policy w.state (part os orders) (part ans w.answers)) (taken (ran policy w.state (part os orders))))
-  tells (Move t ls) = told_move (answered (moves_not policy w.state t (part ls w.lapses)) (moved w.state.journal w.state.moment t))
-  tells (Report bs) = told_count (answered (reports_not policy w.state (part bs w.bytes)) (length (listing w.state.journal w.state.moment)))
-  tells (Account n) = told_account (account_seen policy w.state n)
-  tells (Reservation n) = told_reservation (reservation_seen policy w.state n)
+  tells (Open A) = Opened (answered (opens_not policy w.state A) tt)
+  tells (Run os ans) = Ran (answered (runs_not policy w.state (part os orders) (part ans w.answers)) (taken (ran policy w.state (part os orders))))
+  tells (Move t ls) = MovedOn (answered (moves_not policy w.state t (part ls w.lapses)) (moved w.state.journal w.state.moment t))
+  tells (Report bs) = Reported (answered (reports_not policy w.state (part bs w.bytes)) (length (listing w.state.journal w.state.moment)))
+  tells (Account n) = AccountTold (option_map statement_of (account_seen policy w.state n))
+  tells (Reservation n) = ReservationTold (reservation_seen policy w.state n)
   tells Moment = At w.state.moment
-  tells Reading = Ended (reading_of policy w.state.journal)
+  tells Reading = ReadingTold (reading_of policy w.state.journal)
 
   -- the records that join the journal
   abbrev pub writes : Ask → List Record

@@ -7,7 +7,7 @@ ghost use Rattle.promise.specs.Made.{Same, Calls};
 
 use crate::call::{Ask, Call, Span};
 use crate::desk::{Desk, put};
-use crate::told::Told;
+use crate::told::{Told, state_account};
 use book::Book;
 use journal::Journal;
 use meaning::{Opening, Order};
@@ -22,7 +22,7 @@ fn ask_open<J: Journal, P: Policy>(
     ensures same { Same desk.old desk.new }
     ensures made { (os : List Ordered) → Sound J.Journal P.Policy book.old → Calls J.Journal P.Policy os book.old desk.old (record { at = at; ask = Open opening.now }) book.new desk.new }
 {
-    let told = Told::opening(book.open(opening));
+    let told = Told::Opened(book.open(opening));
     put(desk.told, at, told);
 }
 
@@ -40,7 +40,7 @@ fn ask_run<J: Journal, P: Policy>(
     if legs.is_within(orders.len()) && answers.is_within(desk.answers.len()) {
         let (first, end) = (legs.from, legs.to);
         let (from, to) = (answers.from, answers.to);
-        let told = Told::count(book.run(&orders[first..end], &mut desk.answers[from..to]));
+        let told = Told::Ran(book.run(&orders[first..end], &mut desk.answers[from..to]));
         put(desk.told, at, told);
     }
 }
@@ -57,7 +57,7 @@ fn ask_move<J: Journal, P: Policy>(
 {
     if lapses.is_within(desk.lapses.len()) {
         let (from, to) = (lapses.from, lapses.to);
-        let told = Told::move_to(book.move_to(moment, &mut desk.lapses[from..to]));
+        let told = Told::Moved(book.move_to(moment, &mut desk.lapses[from..to]));
         put(desk.told, at, told);
     }
 }
@@ -68,7 +68,7 @@ fn ask_report<J: Journal, P: Policy>(book: &Book<J, P>, at: usize, bytes: Span, 
 {
     if bytes.is_within(desk.bytes.len()) {
         let (from, to) = (bytes.from, bytes.to);
-        let told = Told::count(book.report(&mut desk.bytes[from..to]));
+        let told = Told::Reported(book.report(&mut desk.bytes[from..to]));
         put(desk.told, at, told);
     }
 }
@@ -92,9 +92,12 @@ pub fn call<J: Journal, P: Policy>(
         } => ask_run(book, at, orders, legs, answers, desk),
         Ask::Move { moment, lapses } => ask_move(book, at, moment, lapses, desk),
         Ask::Report(bytes) => ask_report(book, at, bytes, desk),
-        Ask::Account(number) => put(desk.told, at, Told::account(book.account(number))),
-        Ask::Reservation(number) => put(desk.told, at, Told::reservation(book.reservation(number))),
+        Ask::Account(number) => {
+            let told = Told::Account(state_account(book.account(number)));
+            put(desk.told, at, told)
+        },
+        Ask::Reservation(number) => put(desk.told, at, Told::Reservation(book.reservation(number))),
         Ask::Moment => put(desk.told, at, Told::Moment(book.moment())),
-        Ask::Reading => put(desk.told, at, Told::Ended(book.reading())),
+        Ask::Reading => put(desk.told, at, Told::Reading(book.reading())),
     }
 }

@@ -1,6 +1,5 @@
 // What every book with a past keeps.
 ghost use Rattle.std.specs.Prelude.{◌≡◌};
-ghost use Rattle.meaning.specs.declared.answers.Reading.TheVariants.{Through};
 ghost use Rattle.meaning.specs.Reading.{reading as reading_of};
 ghost use Rattle.steps.specs.Written.{journal_of};
 ghost use Rattle.book.specs.Sound.{policy_of, Sound};
@@ -14,7 +13,7 @@ use policy::Policy;
 // How the reading of a book's journal ended; where it went through, the book keeps all that a book keeps.
 pub fn keeps<J: Journal, P: Policy>(book: &Book<J, P>) -> Reading
     ensures reading { Sound J.Journal P.Policy book.now → result ≡ reading_of (policy_of J.Journal P.Policy book.now) (journal_of J.Journal book.now.journal) }
-    ensures kept { Sound J.Journal P.Policy book.now → result ≡ Through → Keeps J.Journal P.Policy book.now }
+    ensures kept { Sound J.Journal P.Policy book.now → result ≡ Ok tt → Keeps J.Journal P.Policy book.now }
 {
     book.reading()
 }

@@ -20,7 +20,7 @@ pub fn run_calls<J: Journal, P: Policy>(
     ensures same { Same desk.old desk.new }
     ensures made { Sound J.Journal P.Policy book.old → CallsAll J.Journal P.Policy orders.now book.old desk.old calls.now book.new desk.new }
 {
-    for i in 0..calls.len() {
-        call(book, &calls[i], orders, desk);
+    for next in calls {
+        call(book, next, orders, desk);
     }
 }

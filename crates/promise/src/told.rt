@@ -1,8 +1,8 @@
-// What a call is told, as plain values.
+// What a call is told, as a value.
 ghost use Rattle.std.specs.Prelude.{◌≡◌};
 ghost use Rattle.std.specs.Option.{option_map};
 ghost use Rattle.meaning.specs.Rows.{standing_of};
-ghost use Rattle.promise.specs.Telling.{told_opening, told_count, told_move, told_account, told_reservation};
+ghost use Rattle.promise.specs.Telling.{StatementOf, statement_of};
 
 use meaning::{Account, Moved, Opening, Reading, Refusal, Reservation};
 
@@ -16,75 +16,43 @@ pub struct Statement {
     pub credits_posted: u64,
 }
 
+impl From<Account> for Statement {
+    ghost from_gives = { StatementOf };
+
+    fn from(account: Account) -> Statement {
+        Statement {
+            account: Opening {
+                number: account.number,
+                ledger: account.ledger,
+                class: account.class,
+                limit: account.limit,
+                label: account.label.code,
+            },
+            debits_pending: account.totals.debits.pending,
+            debits_posted: account.totals.debits.posted,
+            credits_pending: account.totals.credits.pending,
+            credits_posted: account.totals.credits.posted,
+        }
+    }
+}
+
+// What each call answers; nothing where none was made.
 #[derive(Clone, Copy)]
 pub enum Told {
     Nothing,
-    Done,
-    Refused(Refusal),
-    Count(usize),
-    Moved(Moved),
-    Account(Statement),
-    Reservation(Reservation),
-    Unknown,
+    Opened(Result<(), Refusal>),
+    Ran(Result<usize, Refusal>),
+    Moved(Result<Moved, Refusal>),
+    Reported(Result<usize, Refusal>),
+    Account(Option<Statement>),
+    Reservation(Option<Reservation>),
     Moment(u64),
-    Ended(Reading),
+    Reading(Reading),
 }
 
-impl Told {
-    pub fn opening(answer: Result<(), Refusal>) -> Told
-        ensures { result ≡ told_opening answer }
-    {
-        match answer {
-            Ok(()) => Told::Done,
-            Err(refusal) => Told::Refused(refusal),
-        }
-    }
-
-    pub fn count(answer: Result<usize, Refusal>) -> Told
-        ensures { result ≡ told_count answer }
-    {
-        match answer {
-            Ok(count) => Told::Count(count),
-            Err(refusal) => Told::Refused(refusal),
-        }
-    }
-
-    pub fn move_to(answer: Result<Moved, Refusal>) -> Told
-        ensures { result ≡ told_move answer }
-    {
-        match answer {
-            Ok(moved) => Told::Moved(moved),
-            Err(refusal) => Told::Refused(refusal),
-        }
-    }
-
-    pub fn account(answer: Option<Account>) -> Told
-        ensures { result ≡ told_account (option_map standing_of answer) }
-    {
-        match answer {
-            Some(account) => Told::Account(Statement {
-                account: Opening {
-                    number: account.number,
-                    ledger: account.ledger,
-                    class: account.class,
-                    limit: account.limit,
-                    label: account.label.code,
-                },
-                debits_pending: account.totals.debits.pending,
-                debits_posted: account.totals.debits.posted,
-                credits_pending: account.totals.credits.pending,
-                credits_posted: account.totals.credits.posted,
-            }),
-            None => Told::Unknown,
-        }
-    }
-
-    pub fn reservation(answer: Option<Reservation>) -> Told
-        ensures { result ≡ told_reservation answer }
-    {
-        match answer {
-            Some(held) => Told::Reservation(held),
-            None => Told::Unknown,
-        }
-    }
+// The statement of an account, where there is one.
+pub(crate) fn state_account(account: Option<Account>) -> Option<Statement>
+    ensures { result ≡ option_map statement_of (option_map standing_of account) }
+{
+    account.map(Statement::from)
 }

@@ -2,7 +2,7 @@ use Rattle.std.proofs.Common.{length, set, sym, refl, ap, ◌∙◌}
 use Rattle.std.proofs.lemmas.Bool.{and_from}
 use Rattle.promise.specs.declared.call.Ask.TheVariants.{Run}
 use Rattle.promise.specs.Spans.{inside}
-use Rattle.promise.specs.Telling.{told_count}
+use Rattle.promise.specs.declared.told.Told.TheVariants.{Ran as tells}
 use Rattle.promise.proofs.Making.{laid, made_by}
 use Rattle.promise.proofs.calling.ask_run.Goals as goal
 
@@ -15,5 +15,5 @@ returns-then-is_within-2 g c = record {
       let d = c.args.desk.now in
       let fits = sym c.if-is_within-2.ensures in
       made_by g.J.Journal g.P.Policy os c.args.book.now d (record { at = c.args.at; ask = Run c.args.legs c.args.answers }) c.run.new.self _ (and_from (inside c.args.legs (length os)) (inside c.args.answers (length d.answers.now)) (sym c.if-is_within.ensures) fits) e.after
-      (c.put.ensures ∙ ap (set d.told.now c.args.at) (c.count-told.ensures ∙ ap told_count e.answer)) (laid c.args.answers d.answers.now c.run.new.answers _ fits c.run.auto.answers e.answers) refl refl;
+      (c.put.ensures ∙ ap (set d.told.now c.args.at) (ap tells e.answer)) (laid c.args.answers d.answers.now c.run.new.answers _ fits c.run.auto.answers e.answers) refl refl;
 }
