@@ -2,11 +2,12 @@
 use crate::books::{open_many, reserve, transfer};
 use book::Book;
 use journal::{Journal, Roll, Strip};
-use meaning::{Action, Answer, Order, Refusal};
+use meaning::{Action, Answer, Order, Refusal, number_of};
 use policy::{Open, Policy};
+use std::test::Fail;
 
 // What stands at a place to which nothing was written.
-const UNTOUCHED: Answer = Answer::Refused(Refusal::BufferTooShort);
+const UNTOUCHED: Answer = Err(Refusal::BufferTooShort);
 
 fn order(number: u32, linked: bool, action: Action) -> Order {
     Order {
@@ -32,19 +33,17 @@ fn run_chain<J: Journal, P: Policy>(
     legs: usize,
     has_end: bool,
     first: u32,
-) -> (u8, u8) {
+) -> Result<(Answer, Answer), Refusal> {
     let legs = legs.clamp(1, 20);
-    let end = if has_end { Some(legs - 1) } else { None };
+    let end = has_end.then_some(legs - 1);
     let orders = chain(first, end);
     let mut answers = [UNTOUCHED; 20];
-    match book.run(&orders[0..legs], &mut answers[0..legs]) {
-        Ok(_) => (answers[0].number(), answers[legs - 1].number()),
-        Err(refusal) => (refusal.number(), refusal.number()),
-    }
+    book.run(&orders[0..legs], &mut answers[0..legs])?;
+    Ok((answers[0], answers[legs - 1]))
 }
 
 #[test]
-fn chains(rt: HostRuntime) {
+fn chains(rt: HostRuntime) -> Result<(), Fail> {
     // spare, legs, whether it has an end, first number; first answer, last answer
     let cases = [
         (20, 1, true, 1, 0, 0),
@@ -71,11 +70,14 @@ fn chains(rt: HostRuntime) {
         let bytes = 97 + 48 * spare.min(20);
         let strip = Strip::make(&mut memory[0..bytes], 0);
         let mut book = Book::create(strip, Open);
-        assert_eq!(rt; open_many(&mut book, 2), 0);
-        let (one, other) = run_chain(&mut book, legs, has_end, first);
-        assert_eq!(rt; one, first_answer, "{}", i);
-        assert_eq!(rt; other, last_answer, "{}", i);
+        assert!(rt; open_many(&mut book, 2).is_ok());
+        let Ok((one, other)) = run_chain(&mut book, legs, has_end, first) else {
+            return Err(Fail::new(i));
+        };
+        assert_eq!(rt; number_of(&one), first_answer, "{}", i);
+        assert_eq!(rt; number_of(&other), last_answer, "{}", i);
     }
+    Ok(())
 }
 
 #[test]
@@ -90,33 +92,30 @@ fn batches_by_their_answer_list(rt: HostRuntime) {
     ];
     for (i, (many, places, answer, taken)) in cases.into_iter().enumerate() {
         let mut book = Book::create(Roll::new(), Open);
-        assert_eq!(rt; open_many(&mut book, 2), 0);
+        assert!(rt; open_many(&mut book, 2).is_ok());
         let orders = [
             order(1, false, transfer(1, 2, 1)),
             order(2, false, transfer(1, 2, 1)),
         ];
         let mut answers = [UNTOUCHED; 3];
         let many = many.min(2);
-        let got = match book.run(&orders[0..many], &mut answers[0..places.min(3)]) {
-            Ok(taken) => (0, taken),
-            Err(refusal) => (refusal.number(), 0),
-        };
-        assert_eq!(rt; got.0, answer, "{}", i);
-        assert_eq!(rt; got.1, taken, "{}", i);
+        let got = book.run(&orders[0..many], &mut answers[0..places.min(3)]);
+        assert_eq!(rt; number_of(&got), answer, "{}", i);
+        assert_eq!(rt; got.unwrap_or(0), taken, "{}", i);
         assert_eq!(rt;
-            answers[0].number(),
+            number_of(&answers[0]),
             if taken == 0 { 56 } else { 0 },
             "{}",
             i
         );
-        assert_eq!(rt; answers[2].number(), 56, "{}", i);
+        assert_eq!(rt; number_of(&answers[2]), 56, "{}", i);
     }
 }
 
 #[test]
 fn a_batch_of_chains(rt: HostRuntime) {
     let mut book = Book::create(Roll::new(), Open);
-    assert_eq!(rt; open_many(&mut book, 2), 0);
+    assert!(rt; open_many(&mut book, 2).is_ok());
     let orders = [
         order(11, false, transfer(1, 2, 100)),
         order(12, true, transfer(1, 2, 50)),
@@ -136,8 +135,8 @@ fn a_batch_of_chains(rt: HostRuntime) {
     let taken = book.run(&orders, &mut answers).unwrap_or(99);
     assert_eq!(rt; taken, 3);
     let expected = [0, 11, 21, 0, 0, 12, 56, 56];
-    for i in 0..8 {
-        assert_eq!(rt; answers[i].number(), expected[i], "{}", i);
+    for (i, answer) in answers.iter().enumerate() {
+        assert_eq!(rt; number_of(answer), expected[i], "{}", i);
     }
     let (roll, _) = book.close();
     assert_eq!(rt; roll.count(), 5);

@@ -1,8 +1,8 @@
 // Books to ask.
-use crate::asking::{open, run_one};
+use crate::asking::run_one;
 use book::Book;
 use journal::{Journal, Roll};
-use meaning::{Action, Opening};
+use meaning::{Action, Answer, Opening};
 use policy::{ByClass, Ceiling, Floor, Open, Policy};
 
 pub const DAM: u64 = 0x4441_4d20_2020_2020;
@@ -33,15 +33,12 @@ pub fn opening(number: u32) -> Opening {
     }
 }
 
-// Opens accounts of the numbers from 1 on; the first answer that isn't 0.
-pub fn open_many<J: Journal, P: Policy>(book: &mut Book<J, P>, many: u32) -> u8 {
+// Opens accounts of the numbers from 1 on, up to the first that is refused.
+pub fn open_many<J: Journal, P: Policy>(book: &mut Book<J, P>, many: u32) -> Answer {
     for number in 1..=many {
-        let answer = open(book, opening(number));
-        if answer != 0 {
-            return answer;
-        }
+        book.open(&opening(number))?;
     }
-    0
+    Ok(())
 }
 
 pub fn transfer(debit: u32, credit: u32, amount: u64) -> Action {
@@ -81,7 +78,7 @@ pub fn river() -> Book<Roll, Mixed> {
             limit,
             label: DAM,
         };
-        let _ = open(&mut book, opening);
+        let _ = book.open(&opening);
     }
     let _ = run_one(&mut book, 9, transfer(1, 2, 1));
     let _ = run_one(&mut book, 10, transfer(4, 5, 1));

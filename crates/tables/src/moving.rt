@@ -4,6 +4,7 @@ use crate::books::{open_many, reserve};
 use book::Book;
 use journal::Roll;
 use meaning::limits::LAST_MOMENT;
+use meaning::number_of;
 use policy::Open;
 use std::process::Abort;
 use std::test::Fail;
@@ -11,10 +12,10 @@ use std::test::Fail;
 // At 1000, with five live reservations: 4 until 1060, 5 until 1030, 6 without a deadline, 7 until 1060, 8 until 2000.
 fn waiting(rt: &impl Abort) -> Book<Roll, Open> {
     let mut book = Book::create(Roll::new(), Open);
-    assert_eq!(rt; open_many(&mut book, 2), 0);
-    assert_eq!(rt; move_to(&mut book, 1000, 0), 0);
+    assert!(rt; open_many(&mut book, 2).is_ok());
+    assert!(rt; move_to(&mut book, 1000, 0).is_ok());
     for (number, duration) in [(4, 60), (5, 30), (6, 0), (7, 60), (8, 1000)] {
-        assert_eq!(rt; run_one(&mut book, number, reserve(1, 2, 1, duration)), 0);
+        assert!(rt; run_one(&mut book, number, reserve(1, 2, 1, duration)).is_ok());
     }
     book
 }
@@ -40,7 +41,12 @@ fn moves_by_moment_and_list(rt: HostRuntime) {
     ];
     for (i, (moment, places, answer)) in cases.into_iter().enumerate() {
         let mut book = waiting(&rt);
-        assert_eq!(rt; move_to(&mut book, moment, places), answer, "{}", i);
+        assert_eq!(rt;
+            number_of(&move_to(&mut book, moment, places)),
+            answer,
+            "{}",
+            i
+        );
         assert_eq!(rt;
             book.moment(),
             if answer == 0 { moment } else { 1000 },
@@ -67,9 +73,7 @@ fn what_lapses(rt: HostRuntime) -> Result<(), Fail> {
         };
         assert_eq!(rt; moved.lapsed, lapsed, "{}", moment);
         assert_eq!(rt; moved.next_deadline, next, "{}", moment);
-        for i in 0..5 {
-            assert_eq!(rt; lapses[i], expected[i], "{}", moment);
-        }
+        assert_eq!(rt; lapses, expected, "{}", moment);
     }
     Ok(())
 }

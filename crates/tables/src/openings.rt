@@ -1,11 +1,10 @@
 // Opening an account: refusals 41 to 47.
-use crate::asking::open;
 use crate::books::{DAM, open_many, opening};
 use crate::picky::Picky;
 use book::Book;
 use journal::{Roll, Strip};
-use meaning::Opening;
 use meaning::limits::TOP;
+use meaning::{Opening, number_of};
 use std::process::Abort;
 
 // number, ledger, class, limit, label; answer. Account 1 is open, and classes from 9 on aren't admitted.
@@ -46,7 +45,7 @@ fn check_openings(rt: &impl Abort, cases: &[Case]) {
     for (i, case) in cases.iter().enumerate() {
         let (number, ledger, class, limit, label, answer) = *case;
         let mut book = Book::create(Roll::new(), Picky { class: 9 });
-        assert_eq!(rt; open_many(&mut book, 1), 0);
+        assert!(rt; open_many(&mut book, 1).is_ok());
         let opening = Opening {
             number,
             ledger,
@@ -54,7 +53,7 @@ fn check_openings(rt: &impl Abort, cases: &[Case]) {
             limit,
             label,
         };
-        assert_eq!(rt; open(&mut book, opening), answer, "{}", i);
+        assert_eq!(rt; number_of(&book.open(&opening)), answer, "{}", i);
         assert_eq!(rt;
             book.account(2).is_some(),
             answer == 0 && number == 2,
@@ -93,12 +92,12 @@ fn openings_by_the_room(rt: HostRuntime) {
         let mut memory = [0; 3200];
         let strip = Strip::make(&mut memory[0..bytes.min(3200)], 0);
         let mut book = Book::create(strip, Picky { class: 9 });
-        assert_eq!(rt; open_many(&mut book, opened), 0);
+        assert!(rt; open_many(&mut book, opened).is_ok());
         let opening = Opening {
             class,
             label,
             ..opening(100)
         };
-        assert_eq!(rt; open(&mut book, opening), answer, "{}", i);
+        assert_eq!(rt; number_of(&book.open(&opening)), answer, "{}", i);
     }
 }

@@ -1,10 +1,10 @@
 // A book whose reading stopped, which answers 10 before anything else, and the report's refusal 56.
-use crate::asking::{move_to, open, report, run_one};
+use crate::asking::{move_to, report, run_one};
 use crate::books::{open_many, opening, transfer};
 use book::Book;
 use journal::{Journal, Roll};
 use meaning::limits::LAST_MOMENT;
-use meaning::{Answer, Content, Entry, Order, Reading, Record};
+use meaning::{Answer, Content, Entry, Order, Record, number_of};
 use policy::Open;
 use std::test::Fail;
 
@@ -32,35 +32,32 @@ fn a_stopped_book(rt: HostRuntime) -> Result<(), Fail> {
     let mut book = stopped();
     // alone, and where the call's own first condition holds too
     for number in [1, 0] {
-        assert_eq!(rt; open(&mut book, opening(number)), 10);
-        assert_eq!(rt; run_one(&mut book, number, transfer(1, 2, 1)), 10);
+        assert_eq!(rt; number_of(&book.open(&opening(number))), 10);
+        assert_eq!(rt;
+            number_of(&run_one(&mut book, number, transfer(1, 2, 1))),
+            10
+        );
     }
     for moment in [60, LAST_MOMENT + 1] {
-        assert_eq!(rt; move_to(&mut book, moment, 8), 10);
+        assert_eq!(rt; number_of(&move_to(&mut book, moment, 8)), 10);
     }
-    assert_eq!(rt; report(&book, 512), 10);
-    assert_eq!(rt; report(&book, 0), 10);
+    assert_eq!(rt; number_of(&report(&book, 512)), 10);
+    assert_eq!(rt; number_of(&report(&book, 0)), 10);
     let orders = [Order {
         number: 2,
         linked: false,
         action: transfer(1, 2, 1),
     }];
     let mut answers: [Answer; 0] = [];
-    let answer = match book.run(&orders, &mut answers) {
-        Ok(_) => 0,
-        Err(refusal) => refusal.number(),
-    };
-    assert_eq!(rt; answer, 10);
+    assert_eq!(rt; number_of(&book.run(&orders, &mut answers)), 10);
     assert!(rt; book.account(1).is_none() && book.reservation(1).is_none());
     assert_eq!(rt; book.moment(), 0);
-    match book.reading() {
-        Reading::Through => Err(Fail::new("read through")),
-        Reading::Stopped { place, refusal } => {
-            assert_eq!(rt; place, 0);
-            assert_eq!(rt; refusal.number(), 23);
-            Ok(())
-        }
-    }
+    let Err(stop) = book.reading() else {
+        return Err(Fail::new("read through"));
+    };
+    assert_eq!(rt; stop.place, 0);
+    assert_eq!(rt; stop.refusal.number(), 23);
+    Ok(())
 }
 
 #[test]
@@ -76,7 +73,7 @@ fn reports_by_their_buffer(rt: HostRuntime) {
     ];
     for (i, (accounts, bytes, answer)) in cases.into_iter().enumerate() {
         let mut book = Book::create(Roll::new(), Open);
-        assert_eq!(rt; open_many(&mut book, accounts), 0);
-        assert_eq!(rt; report(&book, bytes), answer, "{}", i);
+        assert!(rt; open_many(&mut book, accounts).is_ok());
+        assert_eq!(rt; number_of(&report(&book, bytes)), answer, "{}", i);
     }
 }
