@@ -3,7 +3,7 @@
 
 use book::Book;
 use journal::{Journal, Strip};
-use meaning::{Action, Answer, Label, Opening, Order, Refusal};
+use meaning::{Action, Label, Opening, Order, Refusal, number_of};
 use policy::{ByClass, Floor, Open, Policy};
 use std::io;
 use std::io::Write;
@@ -85,7 +85,10 @@ fn summer<J: Journal, P: Policy>(rt: &HostRuntime, book: &mut Book<J, P>) -> io:
         )],
     )?;
     let chain = [
-        linked(8, transfer(DAM, MILL, 50)),
+        Order {
+            linked: true,
+            ..order(8, transfer(DAM, MILL, 50))
+        },
         order(9, transfer(MILL, FARM, 701)),
     ];
     run(rt, book, &chain)
@@ -95,14 +98,6 @@ fn order(number: u32, action: Action) -> Order {
     Order {
         number,
         linked: false,
-        action,
-    }
-}
-
-fn linked(number: u32, action: Action) -> Order {
-    Order {
-        number,
-        linked: true,
         action,
     }
 }
@@ -131,10 +126,7 @@ fn open<J: Journal, P: Policy>(
     class: u8,
     name: &str,
 ) -> io::Result<()> {
-    let label = match Label::parse(name) {
-        Some(label) => label.code,
-        None => 0,
-    };
+    let label = Label::parse(name).map_or(0, |label| label.code);
     let opening = Opening {
         number,
         ledger: RIVER,
@@ -142,10 +134,7 @@ fn open<J: Journal, P: Policy>(
         limit: 0,
         label,
     };
-    let answer = match book.open(&opening) {
-        Ok(()) => Answer::Taken,
-        Err(refusal) => Answer::Refused(refusal),
-    };
+    let answer = number_of(&book.open(&opening));
     println!(rt; "{opening} -> {answer}")
 }
 
@@ -155,10 +144,11 @@ fn run<J: Journal, P: Policy>(
     book: &mut Book<J, P>,
     orders: &[Order],
 ) -> io::Result<()> {
-    let mut answers = [Answer::Refused(Refusal::AnswersTooShort); BATCH];
+    let mut answers = [Err(Refusal::AnswersTooShort); BATCH];
     match book.run(orders, &mut answers) {
         Ok(taken) => {
             for (order, answer) in orders.iter().zip(answers.iter()) {
+                let answer = number_of(answer);
                 println!(rt; "{order} -> {answer}")?;
             }
             println!(rt; "batch -> {taken} taken")
@@ -178,7 +168,7 @@ fn move_to<J: Journal, P: Policy>(
             let lapsed = moved.lapsed;
             let next = moved.next_deadline;
             println!(rt; "move to {moment} -> {lapsed} lapsed, next deadline {next}")?;
-            for number in lapses.iter().take(BATCH.min(moved.lapsed as usize)) {
+            for number in lapses.iter().take(moved.lapsed as usize) {
                 println!(rt; "lapsed: {number}")?;
             }
             Ok(())
@@ -212,16 +202,23 @@ fn report<J: Journal, P: Policy>(rt: &HostRuntime, book: &Book<J, P>) -> io::Res
 // Prints the bytes of a strip that are in use: the version, and then each record on a line of its own.
 fn show_bytes(rt: &HostRuntime, memory: &[u8], used: usize) -> io::Result<()> {
     println!(rt; "strip: {used} bytes used")?;
-    for (i, byte) in memory.iter().take(used).enumerate() {
-        print!(rt; "{byte:02x}")?;
-        if i % 48 == 0 {
-            println!(rt; "")?;
-        }
+    let Some((version, records)) = memory[..used.min(memory.len())].split_first() else {
+        return Ok(());
+    };
+    show_line(rt, &[*version])?;
+    for record in records.chunks(48) {
+        show_line(rt, record)?;
     }
     Ok(())
 }
 
+fn show_line(rt: &HostRuntime, bytes: &[u8]) -> io::Result<()> {
+    for byte in bytes {
+        print!(rt; "{byte:02x}")?;
+    }
+    println!(rt; "")
+}
+
 fn show_refusal(rt: &HostRuntime, call: &str, refusal: Refusal) -> io::Result<()> {
-    let number = refusal.number();
-    println!(rt; "{call} -> refused {number}")
+    println!(rt; "{call} -> refused {refusal}")
 }

@@ -20,17 +20,14 @@ fn transfer() -> Result<Entry, Fail> {
             amount: 900,
         },
     };
-    match Entry::new(fields) {
-        Some(entry) => Ok(entry),
-        None => Err(Fail::new("not sound")),
-    }
+    Entry::new(fields).ok_or_else(|| Fail::new("not sound"))
 }
 
 // The memory of a strip of three records.
 fn three_records() -> [u8; 145] {
     let mut memory = [1; 145];
-    for i in 1..145 {
-        memory[i] = TRANSFER[(i - 1) % 48];
+    for record in memory[1..].chunks_exact_mut(48) {
+        record.copy_from_slice(TRANSFER);
     }
     memory
 }
@@ -55,9 +52,7 @@ fn check_made(rt: &impl Abort, memory: &mut [u8], used: usize, count: u64, spare
 #[test]
 fn a_record_by_its_bytes(rt: HostRuntime) -> Result<(), Fail> {
     let bytes = encode(&transfer()?);
-    for i in 0..48 {
-        assert_eq!(rt; bytes[i], TRANSFER[i]);
-    }
+    assert_eq!(rt; bytes, *TRANSFER);
     let bytes: &[u8] = TRANSFER;
     let Some(entry) = decode(bytes) else {
         return Err(Fail::new("not read"));
@@ -133,9 +128,8 @@ fn an_append_writes_its_record(rt: HostRuntime) -> Result<(), Fail> {
     let memory = strip.give_back();
     assert!(rt; memory.len() == 120);
     assert_eq!(rt; memory[0], 1);
-    for i in 0..48 {
-        assert_eq!(rt; memory[1 + i], TRANSFER[i]);
-        assert_eq!(rt; memory[49 + i], TRANSFER[i]);
+    for record in memory[1..97].chunks_exact(48) {
+        assert!(rt; record == TRANSFER.as_slice());
     }
     assert_eq!(rt; memory[97], 9);
     check_made(&rt, memory, 97, 2, 0);
