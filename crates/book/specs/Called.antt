@@ -1,4 +1,4 @@
--- What each call on a book with a past gives: its answer, the caller's list or buffer, and the book after it.
+-- What each call on a book gives: its answer, the caller's list or buffer, and the book after it.
 use Rattle.std.specs.Prelude.{◌≡◌, ℕ, List, [], length, Result}
 use Rattle.meaning.specs.declared.answers.Moved.{Moved}
 use Rattle.meaning.specs.declared.opening.Opening.{Opening}
@@ -13,27 +13,26 @@ use Rattle.policy.specs.declared.policy.Policy as policy
 use Rattle.steps.specs.Written.{journal_of}
 use Rattle.book.specs.declared.book.Book.{Book}
 use Rattle.reading.specs.Stands.{start_of}
-use Rattle.book.specs.Sound.{policy_of, state_of, Sound, After}
+use Rattle.book.specs.States.{policy_of, state_of, After}
 
--- a new book: what it owns, its first moment, and that it has a past
-pub record Created {J P : Type 0} (j : journal.Ghosts J) (p : policy.Ghosts P) (x : J) (y : P) (b : Book J P) : Type 0 where
+-- a new book: what it owns, how reading ended, and its first moment
+pub record Created {J P : Type 0} (j : journal.Ghosts J) (p : policy.Ghosts P) (x : J) (y : P) (b : Book J P j p) : Type 0 where
   pub journal : b.journal ≡ x
   pub policy : b.policy ≡ y
   pub reading : b.reading ≡ reading_of (p.admits y) (journal_of j x)
   pub moment : b.moment ≡ start_of (reading_of (p.admits y) (journal_of j x)) (journal_of j x)
-  pub sound : Sound j p b
 
-module _ {J P : Type 0} (j : journal.Ghosts J) (p : policy.Ghosts P) (b : Book J P) where
-  pub record Opened (A : Opening) (r : Result (Unit {0}) Refusal) (b' : Book J P) : Type 0 where
+module _ {J P : Type 0} (j : journal.Ghosts J) (p : policy.Ghosts P) (b : Book J P j p) where
+  pub record Opened (A : Opening) (r : Result (Unit {0}) Refusal) (b' : Book J P j p) : Type 0 where
     pub answer : r ≡ answered (opens_not (policy_of j p b) (state_of j p b) A) tt
     pub after : After j p b (open_writes (policy_of j p b) (state_of j p b) A) b.moment b'
 
-  pub record RanBatch (os : List Order) (ans : List Answer) (r : Result ℕ Refusal) (ans' : List Answer) (b' : Book J P) : Type 0 where
+  pub record RanBatch (os : List Order) (ans : List Answer) (r : Result ℕ Refusal) (ans' : List Answer) (b' : Book J P j p) : Type 0 where
     pub answer : r ≡ answered (runs_not (policy_of j p b) (state_of j p b) os ans) (taken (ran (policy_of j p b) (state_of j p b) os))
     pub answers : ans' ≡ run_answers (policy_of j p b) (state_of j p b) os ans
     pub after : After j p b (run_writes (policy_of j p b) (state_of j p b) os ans) b.moment b'
 
-  pub record MovedTo (t : ℕ) (ls : List ℕ) (r : Result Moved Refusal) (ls' : List ℕ) (b' : Book J P) : Type 0 where
+  pub record MovedTo (t : ℕ) (ls : List ℕ) (r : Result Moved Refusal) (ls' : List ℕ) (b' : Book J P j p) : Type 0 where
     pub answer : r ≡ answered (moves_not (policy_of j p b) (state_of j p b) t ls) (moved (journal_of j b.journal) b.moment t)
     pub lapses : ls' ≡ move_lapses (policy_of j p b) (state_of j p b) t ls
     pub after : After j p b [] (moved_to (policy_of j p b) (state_of j p b) t ls) b'

@@ -1,6 +1,5 @@
 // Moving the book's moment on.
 ghost use Rattle.book.specs.Called.{MovedTo};
-ghost use Rattle.book.specs.Sound.{Sound};
 
 use super::Book;
 use journal::Journal;
@@ -11,7 +10,7 @@ use policy::Policy;
 impl<J: Journal, P: Policy> Book<J, P> {
     // Moves to a moment: what falls due lapses, by deadline and then number, into the list's first places.
     pub fn move_to(&mut self, moment: u64, lapses: &mut [u32]) -> Result<Moved, Refusal>
-        ensures { Sound J.Journal P.Policy self.old → MovedTo J.Journal P.Policy self.old moment lapses.old result lapses.new self.new }
+        ensures { MovedTo J.Journal P.Policy self.old moment lapses.old result lapses.new self.new }
     {
         self.require_read()?;
         let moved = move_on(&mut self.balances, self.moment, moment, lapses)?;

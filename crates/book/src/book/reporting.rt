@@ -1,6 +1,5 @@
 // The listing.
 ghost use Rattle.book.specs.Called.{Reported};
-ghost use Rattle.book.specs.Sound.{Sound};
 
 use super::Book;
 use journal::Journal;
@@ -10,7 +9,7 @@ use policy::Policy;
 impl<J: Journal, P: Policy> Book<J, P> {
     // Writes the listing into the buffer from its first byte on; the listing's length.
     pub fn report(&self, buffer: &mut [u8]) -> Result<usize, Refusal>
-        ensures { Sound J.Journal P.Policy self.now → Reported J.Journal P.Policy self.now buffer.old result buffer.new }
+        ensures { Reported J.Journal P.Policy self.now buffer.old result buffer.new }
     {
         self.require_read()?;
         listing::report(&self.balances, buffer)
