@@ -10,14 +10,14 @@ use Rattle.laws.proofs.Balanced.{balanced}
 use Rattle.laws.proofs.Admitted.{admitted}
 use Rattle.steps.specs.Written.{journal_of}
 use Rattle.book.specs.declared.book.Book.{Book}
-use Rattle.book.specs.Sound.{policy_of, Sound}
+use Rattle.book.specs.States.{policy_of}
 use Rattle.book.proofs.Running.{running, reads}
 use Rattle.promise.specs.Kept.{Keeps}
 
-module _ {J P : Type 0} (j : journal.Ghosts J) (p : policy.Ghosts P) (b : Book J P) (law : Lawful (policy_of j p b)) where
-  pub keeps_all : Sound j p b → b.reading ≡ Ok tt → Keeps j p b
-  keeps_all s e =
-      let R = running j p b s (sym (ap stopped_refused e)) in
+module _ {J P : Type 0} (j : journal.Ghosts J) (p : policy.Ghosts P) (b : Book J P j p) (law : Lawful (policy_of j p b)) where
+  pub keeps_all : b.reading ≡ Ok tt → Keeps j p b
+  keeps_all e =
+      let R = running j p b (sym (ap stopped_refused e)) in
       let K = journal_of j b.journal in
       let h = reads j p b R in
       record {

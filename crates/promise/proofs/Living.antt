@@ -12,7 +12,7 @@ use Rattle.laws.proofs.Passes.{not_stopped}
 use Rattle.steps.specs.Written.{journal_of, Wrote}
 use Rattle.book.specs.declared.book.Book.{Book}
 use Rattle.book.specs.Called.{Created}
-use Rattle.book.specs.Sound.{policy_of, state_of}
+use Rattle.book.specs.States.{policy_of, state_of}
 use Rattle.book.proofs.Running.{running}
 use Rattle.promise.specs.declared.call.Call.{Call}
 use Rattle.promise.specs.declared.desk.Desk.{Desk}
@@ -28,7 +28,7 @@ pub same-adds : {q r : Policy} {w v : World} → q ≡ r → w ≡ v → (os : L
 same-adds {q} {r} {w} {v} e f os cs = ap (λ x. adds_all x os w cs) e ∙ ap (λ x. adds_all r os x cs) f
 
 -- what is known of the first book: created over x (A), after its past (A1), and after the further calls (A2)
-pub record Lived {J P : Type 0} (j : journal.Ghosts J) (p : policy.Ghosts P) (admits : Policy) (os : List Order) (x : J) (past further : List Call) (before mine before' mine' : Desk) (A1 A2 : Book J P) : Type 0 where
+pub record Lived {J P : Type 0} (j : journal.Ghosts J) (p : policy.Ghosts P) (admits : Policy) (os : List Order) (x : J) (past further : List Call) (before mine before' mine' : Desk) (A1 A2 : Book J P j p) : Type 0 where
   pub mid : state_of j p A1 ≡ (final admits os (with_desk (beginning j admits x) before) past).state
   pub was_told : with_desk (final admits os (with_desk (beginning j admits x) before) past).state before' ≡ final admits os (with_desk (beginning j admits x) before) past
   pub is_told : world_of j p A2 mine' ≡ final admits os (with_desk (final admits os (with_desk (beginning j admits x) before) past).state mine) further
@@ -38,7 +38,7 @@ pub record Lived {J P : Type 0} (j : journal.Ghosts J) (p : policy.Ghosts P) (ad
   pub mid_through : reading_of admits (journal_of j x) ≡ Ok tt → reading_of admits (journal_of j A1.journal) ≡ Ok tt
   pub mid_arrives : reading_of admits (journal_of j x) ≡ Ok tt → move_refused (journal_of j A1.journal) (latest (journal_of j A1.journal)) A1.moment 256 ≡ None
 
-module _ {J P : Type 0} (j : journal.Ghosts J) (p : policy.Ghosts P) (os : List Order) (x : J) (y : P) (past further : List Call) (before mine before' mine' : Desk) (A A1 A2 : Book J P)
+module _ {J P : Type 0} (j : journal.Ghosts J) (p : policy.Ghosts P) (os : List Order) (x : J) (y : P) (past further : List Call) (before mine before' mine' : Desk) (A A1 A2 : Book J P j p)
     (made : Created j p x y A) (one : CallsAll j p os A before past A1 before') (two : CallsAll j p os A1 mine further A2 mine') where
   abbrev admits : Policy
   admits = p.admits y
@@ -90,11 +90,11 @@ module _ {J P : Type 0} (j : journal.Ghosts J) (p : policy.Ghosts P) (os : List 
 
   -- what the second book needs to know of the first before the further calls
   through_mid : reading_of admits (journal_of j x) ≡ Ok tt → reading_of admits (journal_of j A1.journal) ≡ Ok tt
-  through_mid h = ap (λ q. reading_of q (journal_of j A1.journal)) (sym policy_mid) ∙ (sym one.sound.reading ∙ (reading_mid ∙ h))
+  through_mid h = ap (λ q. reading_of q (journal_of j A1.journal)) (sym policy_mid) ∙ (sym A1.read ∙ (reading_mid ∙ h))
 
   arrives_mid : reading_of admits (journal_of j x) ≡ Ok tt → move_refused (journal_of j A1.journal) (latest (journal_of j A1.journal)) A1.moment 256 ≡ None
   arrives_mid h =
-      let R = running j p A1 one.sound (sym (ap stopped_refused (reading_mid ∙ h))) in
+      let R = running j p A1 (sym (ap stopped_refused (reading_mid ∙ h))) in
       arrives admits (journal_of j A1.journal) (not_stopped (read_so_far admits (journal_of j A1.journal)) _ (through_mid h)).0 (latest (journal_of j A1.journal)) A1.moment R.runs.in_time R.runs.bounded
 
   pub lived : Lived j p admits os x past further before mine before' mine' A1 A2

@@ -12,7 +12,7 @@ use Rattle.policy.specs.declared.policy.Policy as policy
 use Rattle.steps.specs.Written.{Wrote}
 use Rattle.steps.proofs.Writes.{wrote_none}
 use Rattle.book.specs.declared.book.Book.{Book}
-use Rattle.book.specs.Sound.{policy_of, state_of, Sound, After}
+use Rattle.book.specs.States.{policy_of, state_of, After}
 use Rattle.promise.specs.declared.call.Call.{Call}
 use Rattle.promise.specs.declared.call.Span.{Span}
 use Rattle.promise.specs.declared.desk.Desk.{Desk}
@@ -31,15 +31,15 @@ laid s xs ys zs h n e =
     put_mid-paste s.from (s.to - s.from) xs ys ys (s.to - s.from) refl refl (sym long) ∙ (paste_all xs s.from ys (s.to - s.from) (sym long)
     ∙ (ap (λ i. take s.from xs ++ (ys ++ drop i xs)) k ∙ ap (λ new. take s.from xs ++ (new ++ drop s.to xs)) e))
 
-module _ {J P : Type 0} (j : journal.Ghosts J) (p : policy.Ghosts P) (os : List Order) (b : Book J P) (d : Desk) where
+module _ {J P : Type 0} (j : journal.Ghosts J) (p : policy.Ghosts P) (os : List Order) (b : Book J P j p) (d : Desk) where
   abbrev here : World
   here = world_of j p b d
 
-  state_after : (new : List Record) (t : ℕ) (b' : Book J P) → After j p b new t b' → state_of j p b' ≡ after (state_of j p b) new t
+  state_after : (new : List Record) (t : ℕ) (b' : Book J P j p) → After j p b new t b' → state_of j p b' ≡ after (state_of j p b) new t
   state_after new t b' A = λ i. record { journal = A.journal.records i; moment = A.moment i; spare = A.journal.spare i }
 
   -- a call whose lists are on the desk
-  pub made_by : (c : Call) (b' : Book J P) (d' : Desk) → proper (policy_of j p b) os here c.ask ≡ true → After j p b (writes (policy_of j p b) os here c.ask) (comes_to (policy_of j p b) os here c.ask) b'
+  pub made_by : (c : Call) (b' : Book J P j p) (d' : Desk) → proper (policy_of j p b) os here c.ask ≡ true → After j p b (writes (policy_of j p b) os here c.ask) (comes_to (policy_of j p b) os here c.ask) b'
       → d'.told.now ≡ set d.told.now c.at (tells (policy_of j p b) os here c.ask) → d'.answers.now ≡ answers_after (policy_of j p b) os here c.ask → d'.lapses.now ≡ lapses_after (policy_of j p b) os here c.ask
       → d'.bytes.now ≡ bytes_after (policy_of j p b) os here c.ask → Calls j p os b d c b' d'
   made_by c b' d' fits A told answers lapses bytes =
@@ -51,20 +51,18 @@ module _ {J P : Type 0} (j : journal.Ghosts J) (p : policy.Ghosts P) (os : List 
         wrote = subst (λ xs. Wrote j b.journal xs b'.journal) (sym (cond-true (proper (policy_of j p b) os here c.ask) new [] fits)) A.journal;
         policy = A.policy;
         reading = A.reading;
-        sound = A.sound;
       }
 
-  pub unmoved : Sound j p b → After j p b [] b.moment b
-  unmoved s = record { journal = wrote_none j b.journal; moment = refl; policy = refl; reading = refl; sound = s }
+  pub unmoved : After j p b [] b.moment b
+  unmoved = record { journal = wrote_none j b.journal; moment = refl; policy = refl; reading = refl }
 
   -- a call whose lists are not
-  pub made_nothing : (c : Call) (d' : Desk) → Sound j p b → proper (policy_of j p b) os here c.ask ≡ false → d'.told.now ≡ d.told.now → d'.answers.now ≡ d.answers.now → d'.lapses.now ≡ d.lapses.now → d'.bytes.now ≡ d.bytes.now → Calls j p os b d c b d'
-  made_nothing c d' s off told answers lapses bytes =
+  pub made_nothing : (c : Call) (d' : Desk) → proper (policy_of j p b) os here c.ask ≡ false → d'.told.now ≡ d.told.now → d'.answers.now ≡ d.answers.now → d'.lapses.now ≡ d.lapses.now → d'.bytes.now ≡ d.bytes.now → Calls j p os b d c b d'
+  made_nothing c d' off told answers lapses bytes =
       let same : world_of j p b d' ≡ here = λ i. record { state = state_of j p b; told = told i; answers = answers i; lapses = lapses i; bytes = bytes i } in
       record {
         world = same ∙ sym (cond-false (proper (policy_of j p b) os here c.ask) (made (policy_of j p b) os here c) here off);
         wrote = subst (λ xs. Wrote j b.journal xs b.journal) (sym (cond-false (proper (policy_of j p b) os here c.ask) (writes (policy_of j p b) os here c.ask) [] off)) (wrote_none j b.journal);
         policy = refl;
         reading = refl;
-        sound = s;
       }

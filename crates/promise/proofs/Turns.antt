@@ -9,7 +9,7 @@ use Rattle.policy.specs.declared.policy.Policy as policy
 use Rattle.steps.specs.Written.{Wrote}
 use Rattle.steps.proofs.Writes.{wrote_none, wrote_then}
 use Rattle.book.specs.declared.book.Book.{Book}
-use Rattle.book.specs.Sound.{policy_of, Sound}
+use Rattle.book.specs.States.{policy_of}
 use Rattle.promise.specs.declared.call.Call.{Call}
 use Rattle.promise.specs.declared.desk.Desk.{Desk}
 use Rattle.promise.specs.Made.{Same, world_of, Calls, CallsAll}
@@ -21,24 +21,23 @@ same_none d = record { told = refl; answers = refl; lapses = refl; bytes = refl 
 pub same_then : (d e f : Desk) → Same d e → Same e f → Same d f
 same_then d e f p q = record { told = q.told ∙ p.told; answers = q.answers ∙ p.answers; lapses = q.lapses ∙ p.lapses; bytes = q.bytes ∙ p.bytes }
 
-module _ {J P : Type 0} (j : journal.Ghosts J) (p : policy.Ghosts P) (os : List Order) (b : Book J P) (d : Desk) (cs : List Call) where
+module _ {J P : Type 0} (j : journal.Ghosts J) (p : policy.Ghosts P) (os : List Order) (b : Book J P j p) (d : Desk) (cs : List Call) where
   abbrev admits : Policy
   admits = policy_of j p b
 
   -- after i calls: what is left leads to the same end, and what was written so far with what is left is all
-  pub record Along (i : ℕ) (b' : Book J P) (d' : Desk) : Type 0 where
+  pub record Along (i : ℕ) (b' : Book J P j p) (d' : Desk) : Type 0 where
     pub new : List Record
     pub left : final admits os (world_of j p b' d') (drop i cs) ≡ final admits os (world_of j p b d) cs
     pub adds_left : new ++ adds_all admits os (world_of j p b' d') (drop i cs) ≡ adds_all admits os (world_of j p b d) cs
     pub wrote : Wrote j b.journal new b'.journal
     pub policy : b'.policy ≡ b.policy
     pub reading : b'.reading ≡ b.reading
-    pub sound : Sound j p b'
 
-  pub along_none : Sound j p b → Along 0 b d
-  along_none s = record { new = []; left = refl; adds_left = refl; wrote = wrote_none j b.journal; policy = refl; reading = refl; sound = s }
+  pub along_none : Along 0 b d
+  along_none = record { new = []; left = refl; adds_left = refl; wrote = wrote_none j b.journal; policy = refl; reading = refl }
 
-  pub along_more : (i : ℕ) (o : Call) (b' b'' : Book J P) (d' d'' : Desk) → i < length cs → Along i b' d' → Calls j p os b' d' (get_or cs i o) b'' d'' → Along (i + 1) b'' d''
+  pub along_more : (i : ℕ) (o : Call) (b' b'' : Book J P j p) (d' d'' : Desk) → i < length cs → Along i b' d' → Calls j p os b' d' (get_or cs i o) b'' d'' → Along (i + 1) b'' d''
   along_more i o b' b'' d' d'' lt A M =
       let c = get_or cs i o in
       let w = world_of j p b' d' in
@@ -53,10 +52,9 @@ module _ {J P : Type 0} (j : journal.Ghosts J) (p : policy.Ghosts P) (os : List 
         wrote = wrote_then j b.journal b'.journal b''.journal A.new added A.wrote (subst (λ q. Wrote j b'.journal (adds q os w c) b''.journal) same M.wrote);
         policy = M.policy ∙ A.policy;
         reading = M.reading ∙ A.reading;
-        sound = M.sound;
       }
 
-  pub along_all : (i : ℕ) (b' : Book J P) (d' : Desk) → length cs ≤ i → Along i b' d' → CallsAll j p os b d cs b' d'
+  pub along_all : (i : ℕ) (b' : Book J P j p) (d' : Desk) → length cs ≤ i → Along i b' d' → CallsAll j p os b d cs b' d'
   along_all i b' d' past A =
       let none = drop_all i cs past in
       record {
@@ -64,5 +62,4 @@ module _ {J P : Type 0} (j : journal.Ghosts J) (p : policy.Ghosts P) (os : List 
         wrote = subst (λ v. Wrote j b.journal v b'.journal) (sym (append-nil A.new) ∙ (ap (λ v. A.new ++ adds_all admits os (world_of j p b' d') v) (sym none) ∙ A.adds_left)) A.wrote;
         policy = A.policy;
         reading = A.reading;
-        sound = A.sound;
       }

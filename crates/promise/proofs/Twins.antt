@@ -17,7 +17,7 @@ use Rattle.steps.proofs.Writes.{wrote_then}
 use Rattle.reading.specs.Stands.{start_of}
 use Rattle.book.specs.declared.book.Book.{Book}
 use Rattle.book.specs.Called.{Created, MovedTo}
-use Rattle.book.specs.Sound.{policy_of, state_of}
+use Rattle.book.specs.States.{policy_of, state_of}
 use Rattle.promise.specs.declared.call.Call.{Call}
 use Rattle.promise.specs.declared.desk.Desk.{Desk}
 use Rattle.promise.specs.Histories.{with_desk, Alike}
@@ -30,13 +30,13 @@ pub wrote_alike : {J K : Type 0} {j : journal.Ghosts J} {k : journal.Ghosts K} {
 wrote_alike {new = new} u v e = v.entries ∙ (ap (λ es. es ++ entries_of new) e ∙ sym u.entries)
 
 -- what is known of it in the end, over its journal x
-pub record Took {K Q : Type 0} (k : journal.Ghosts K) (q : policy.Ghosts Q) (admits : Policy) (from : State) (x : K) (os : List Order) (further : List Call) (mine theirs' : Desk) (B2 : Book K Q) : Type 0 where
+pub record Took {K Q : Type 0} (k : journal.Ghosts K) (q : policy.Ghosts Q) (admits : Policy) (from : State) (x : K) (os : List Order) (further : List Call) (mine theirs' : Desk) (B2 : Book K Q k q) : Type 0 where
   pub reads_through : reading_of admits (journal_of k x) ≡ Ok tt
   pub ended : world_of k q B2 theirs' ≡ final admits os (with_desk from mine) further
   pub wrote_all : Wrote k x (adds_all admits os (with_desk from mine) further) B2.journal
   pub still_through : B2.reading ≡ Ok tt
 
-module _ {K Q : Type 0} (k : journal.Ghosts K) (q : policy.Ghosts Q) (admits : Policy) (from : State) (x : K) (y : Q) (B B1 B2 : Book K Q) (os : List Order) (further : List Call) (mine theirs theirs' : Desk) (t : ℕ) (ls ls' : List ℕ) (r : Result Moved Refusal)
+module _ {K Q : Type 0} (k : journal.Ghosts K) (q : policy.Ghosts Q) (admits : Policy) (from : State) (x : K) (y : Q) (B B1 B2 : Book K Q k q) (os : List Order) (further : List Call) (mine theirs theirs' : Desk) (t : ℕ) (ls ls' : List ℕ) (r : Result Moved Refusal)
     (made : Created k q x y B) (went : MovedTo k q B t ls r ls' B1) (three : CallsAll k q os B1 theirs further B2 theirs')
     (same : q.admits y ≡ admits) (list : journal_of k x ≡ from.journal) (spare : k.spare x ≡ from.spare) (places : length ls ≡ 256) (at-t : t ≡ from.moment)
     (through : reading_of admits from.journal ≡ Ok tt) (arrives : move_refused from.journal (latest from.journal) from.moment 256 ≡ None) (alike : Alike mine theirs) where

@@ -12,7 +12,7 @@ use Rattle.policy.specs.declared.policy.Policy as policy
 use Rattle.steps.specs.Written.{journal_of, entries_of, Wrote}
 use Rattle.reading.specs.Stands.{start_of}
 use Rattle.book.specs.declared.book.Book.{Book}
-use Rattle.book.specs.Sound.{state_of}
+use Rattle.book.specs.States.{state_of}
 use Rattle.promise.specs.declared.call.Call.{Call}
 use Rattle.promise.specs.declared.desk.Desk.{Desk}
 use Rattle.promise.specs.Kept.{Keeps}
@@ -35,7 +35,7 @@ beginning j admits x = record { journal = journal_of j x; moment = start_of (rea
 
 module _ {J P K Q : Type 0} (j : journal.Ghosts J) (p : policy.Ghosts P) (k : journal.Ghosts K) (q : policy.Ghosts Q) where
   -- the second book against the first, after the same further calls: from is what the first had come to before them
-  pub record Twin (admits : Policy) (from : State) (new : List Record) (mine theirs : Desk) (x' : K) (b : Book J P) (b' : Book K Q) : Type 0 where
+  pub record Twin (admits : Policy) (from : State) (new : List Record) (mine theirs : Desk) (x' : K) (b : Book J P j p) (b' : Book K Q k q) : Type 0 where
     -- its journal is read through, and with 256 places for lapses the move to the first book's moment is not refused
     pub through : reading_of admits (journal_of k x') ≡ Ok tt
     pub arrives : move_refused from.journal (latest from.journal) from.moment 256 ≡ None
@@ -65,7 +65,7 @@ module _ {J P K Q : Type 0} (j : journal.Ghosts J) (p : policy.Ghosts P) (k : jo
     abbrev pub new : List Record
     new = adds_all admits os (with_desk then_was.state mine) further
 
-    pub record History (x' : K) (y' : Q) (theirs before' mine' theirs' : Desk) (b : Book J P) (b' : Book K Q) : Type 0 where
+    pub record History (x' : K) (y' : Q) (theirs before' mine' theirs' : Desk) (b : Book J P j p) (b' : Book K Q k q) : Type 0 where
       -- past and further calls gave what the rules give, refused ones too
       pub past_told : with_desk then_was.state before' ≡ then_was
       pub first_told : with_desk (state_of j p b) mine' ≡ then_is

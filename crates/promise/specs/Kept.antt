@@ -9,9 +9,9 @@ use Rattle.laws.specs.Kept.{Once, Balanced, Admitted}
 use Rattle.image.specs.Image.{oldest}
 use Rattle.steps.specs.Written.{journal_of}
 use Rattle.book.specs.declared.book.Book.{Book}
-use Rattle.book.specs.Sound.{policy_of}
+use Rattle.book.specs.States.{policy_of}
 
-pub record Keeps {J P : Type 0} (j : journal.Ghosts J) (p : policy.Ghosts P) (b : Book J P) : Type 0 where
+pub record Keeps {J P : Type 0} (j : journal.Ghosts J) (p : policy.Ghosts P) (b : Book J P j p) : Type 0 where
   -- its accounts are those of J, each with the four totals that J and T give
   pub accounts_are : (books_of b.balances).rows ≡ oldest (standing (journal_of j b.journal) b.moment) (accounts (journal_of j b.journal))
   -- its reservations are those of J, each with the fate that J and T give

@@ -6,7 +6,7 @@ use Rattle.journal.specs.declared.journal.Journal as journal
 use Rattle.policy.specs.declared.policy.Policy as policy
 use Rattle.steps.specs.Written.{Wrote}
 use Rattle.book.specs.declared.book.Book.{Book}
-use Rattle.book.specs.Sound.{policy_of, state_of, Sound}
+use Rattle.book.specs.States.{policy_of, state_of}
 use Rattle.promise.specs.declared.desk.Desk.{Desk}
 use Rattle.promise.specs.declared.call.Call.{Call}
 use Rattle.promise.specs.Worlds.{World, next, adds, final, adds_all}
@@ -19,21 +19,20 @@ pub record Same (d d' : Desk) : Type 0 where
   pub bytes : d'.bytes.ghost_name ≡ d.bytes.ghost_name
 
 module _ {J P : Type 0} (j : journal.Ghosts J) (p : policy.Ghosts P) where
-  abbrev pub world_of : Book J P → Desk → World
+  abbrev pub world_of : Book J P j p → Desk → World
   world_of b d = record { state = state_of j p b; told = d.told.now; answers = d.answers.now; lapses = d.lapses.now; bytes = d.bytes.now }
 
   -- book and desk are now those of the world w, and these records joined the journal
-  pub record Made (b : Book J P) (w : World) (new : List Record) (b' : Book J P) (d' : Desk) : Type 0 where
+  pub record Made (b : Book J P j p) (w : World) (new : List Record) (b' : Book J P j p) (d' : Desk) : Type 0 where
     pub world : world_of b' d' ≡ w
     pub wrote : Wrote j b.journal new b'.journal
     pub policy : b'.policy ≡ b.policy
     pub reading : b'.reading ≡ b.reading
-    pub sound : Sound j p b'
 
   -- what a call makes of them
-  abbrev pub Calls : List Order → Book J P → Desk → Call → Book J P → Desk → Type 0
+  abbrev pub Calls : List Order → Book J P j p → Desk → Call → Book J P j p → Desk → Type 0
   Calls os b d c b' d' = Made b (next (policy_of j p b) os (world_of b d) c) (adds (policy_of j p b) os (world_of b d) c) b' d'
 
   -- and what one call after another does
-  abbrev pub CallsAll : List Order → Book J P → Desk → List Call → Book J P → Desk → Type 0
+  abbrev pub CallsAll : List Order → Book J P j p → Desk → List Call → Book J P j p → Desk → Type 0
   CallsAll os b d cs b' d' = Made b (final (policy_of j p b) os (world_of b d) cs) (adds_all (policy_of j p b) os (world_of b d) cs) b' d'

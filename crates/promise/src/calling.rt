@@ -1,7 +1,6 @@
 // Calls on a book, made from values.
 ghost use Rattle.std.specs.Prelude.{List};
 ghost use Rattle.meaning.specs.declared.order.Order.{Order as Ordered};
-ghost use Rattle.book.specs.Sound.{Sound};
 ghost use Rattle.promise.specs.declared.call.Ask.TheVariants.{Open, Run, Move, Report};
 ghost use Rattle.promise.specs.Made.{Same, Calls};
 
@@ -20,7 +19,7 @@ fn ask_open<J: Journal, P: Policy>(
     desk: &mut Desk<'_>,
 )
     ensures same { Same desk.old desk.new }
-    ensures made { (os : List Ordered) → Sound J.Journal P.Policy book.old → Calls J.Journal P.Policy os book.old desk.old (record { at = at; ask = Open opening.now }) book.new desk.new }
+    ensures made { (os : List Ordered) → Calls J.Journal P.Policy os book.old desk.old (record { at = at; ask = Open opening.now }) book.new desk.new }
 {
     let told = Told::Opened(book.open(opening));
     put(desk.told, at, told);
@@ -35,7 +34,7 @@ fn ask_run<J: Journal, P: Policy>(
     desk: &mut Desk<'_>,
 )
     ensures same { Same desk.old desk.new }
-    ensures made { Sound J.Journal P.Policy book.old → Calls J.Journal P.Policy orders.now book.old desk.old (record { at = at; ask = Run legs answers }) book.new desk.new }
+    ensures made { Calls J.Journal P.Policy orders.now book.old desk.old (record { at = at; ask = Run legs answers }) book.new desk.new }
 {
     if legs.is_within(orders.len()) && answers.is_within(desk.answers.len()) {
         let (first, end) = (legs.from, legs.to);
@@ -53,7 +52,7 @@ fn ask_move<J: Journal, P: Policy>(
     desk: &mut Desk<'_>,
 )
     ensures same { Same desk.old desk.new }
-    ensures made { (os : List Ordered) → Sound J.Journal P.Policy book.old → Calls J.Journal P.Policy os book.old desk.old (record { at = at; ask = Move moment lapses }) book.new desk.new }
+    ensures made { (os : List Ordered) → Calls J.Journal P.Policy os book.old desk.old (record { at = at; ask = Move moment lapses }) book.new desk.new }
 {
     if lapses.is_within(desk.lapses.len()) {
         let (from, to) = (lapses.from, lapses.to);
@@ -64,7 +63,7 @@ fn ask_move<J: Journal, P: Policy>(
 
 fn ask_report<J: Journal, P: Policy>(book: &Book<J, P>, at: usize, bytes: Span, desk: &mut Desk<'_>)
     ensures same { Same desk.old desk.new }
-    ensures made { (os : List Ordered) → Sound J.Journal P.Policy book.now → Calls J.Journal P.Policy os book.now desk.old (record { at = at; ask = Report bytes }) book.now desk.new }
+    ensures made { (os : List Ordered) → Calls J.Journal P.Policy os book.now desk.old (record { at = at; ask = Report bytes }) book.now desk.new }
 {
     if bytes.is_within(desk.bytes.len()) {
         let (from, to) = (bytes.from, bytes.to);
@@ -81,7 +80,7 @@ pub fn call<J: Journal, P: Policy>(
     desk: &mut Desk<'_>,
 )
     ensures same { Same desk.old desk.new }
-    ensures made { Sound J.Journal P.Policy book.old → Calls J.Journal P.Policy orders.now book.old desk.old call.now book.new desk.new }
+    ensures made { Calls J.Journal P.Policy orders.now book.old desk.old call.now book.new desk.new }
 {
     let at = call.at;
     match call.ask {

@@ -2,7 +2,7 @@
 ghost use Rattle.std.specs.Prelude.{◌≡◌};
 ghost use Rattle.meaning.specs.Reading.{reading as reading_of};
 ghost use Rattle.steps.specs.Written.{journal_of};
-ghost use Rattle.book.specs.Sound.{policy_of, Sound};
+ghost use Rattle.book.specs.States.{policy_of};
 ghost use Rattle.promise.specs.Kept.{Keeps};
 
 use book::Book;
@@ -12,8 +12,8 @@ use policy::Policy;
 
 // How the reading of a book's journal ended; where it went through, the book keeps all that a book keeps.
 pub fn keeps<J: Journal, P: Policy>(book: &Book<J, P>) -> Reading
-    ensures reading { Sound J.Journal P.Policy book.now → result ≡ reading_of (policy_of J.Journal P.Policy book.now) (journal_of J.Journal book.now.journal) }
-    ensures kept { Sound J.Journal P.Policy book.now → result ≡ Ok tt → Keeps J.Journal P.Policy book.now }
+    ensures reading { result ≡ reading_of (policy_of J.Journal P.Policy book.now) (journal_of J.Journal book.now.journal) }
+    ensures kept { result ≡ Ok tt → Keeps J.Journal P.Policy book.now }
 {
     book.reading()
 }

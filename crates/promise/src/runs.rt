@@ -1,5 +1,4 @@
 // Calls one after another.
-ghost use Rattle.book.specs.Sound.{Sound};
 ghost use Rattle.promise.specs.Made.{Same, CallsAll};
 
 use crate::call::Call;
@@ -18,7 +17,7 @@ pub fn run_calls<J: Journal, P: Policy>(
     desk: &mut Desk<'_>,
 )
     ensures same { Same desk.old desk.new }
-    ensures made { Sound J.Journal P.Policy book.old → CallsAll J.Journal P.Policy orders.now book.old desk.old calls.now book.new desk.new }
+    ensures made { CallsAll J.Journal P.Policy orders.now book.old desk.old calls.now book.new desk.new }
 {
     for next in calls {
         call(book, next, orders, desk);

@@ -7,8 +7,8 @@ use Rattle.promise.proofs.calling.ask_move.Goals as goal
 pub returns-then-is_within : goal.returns-then-is_within
 returns-then-is_within g c = record {
   same = record { told = refl; answers = refl; lapses = refl; bytes = refl };
-  made = λ os past.
-      let e = c.move_to.ensures past in
+  made = λ os.
+      let e = c.move_to.ensures in
       let d = c.args.desk.now in
       let fits = sym c.if-is_within.ensures in
       made_by g.J.Journal g.P.Policy os c.args.book.now d (record { at = c.args.at; ask = Move c.args.moment c.args.lapses }) c.move_to.new.self _ fits e.after

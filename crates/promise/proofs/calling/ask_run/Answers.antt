@@ -9,8 +9,8 @@ use Rattle.promise.proofs.calling.ask_run.Goals as goal
 pub returns-then-is_within-2 : goal.returns-then-is_within-2
 returns-then-is_within-2 g c = record {
   same = record { told = refl; answers = refl; lapses = refl; bytes = refl };
-  made = λ past.
-      let e = c.run.ensures past in
+  made =
+      let e = c.run.ensures in
       let os = c.args.orders.now in
       let d = c.args.desk.now in
       let fits = sym c.if-is_within-2.ensures in

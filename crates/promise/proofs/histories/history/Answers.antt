@@ -29,17 +29,17 @@ returns g c =
     let mine' = c.run_calls-2.new.desk in
     let theirs' = c.run_calls-3.new.desk in
     let made = c.create-first.ensures in
-    let one = c.run_calls.ensures.made made.sound in
-    let two = c.run_calls-2.ensures.made one.sound in
+    let one = c.run_calls.ensures.made in
+    let two = c.run_calls-2.ensures.made in
     let twin = c.create-second.ensures in
-    let went = c.move_to.ensures twin.sound in
-    let three = c.run_calls-3.ensures.made went.after.sound in
+    let went = c.move_to.ensures in
+    let three = c.run_calls-3.ensures.made in
     let L = lived j p os a.journal a.policy a.past.now a.further.now a.before.now a.mine.now before' mine' A A1 A2 made one two in
     record {
       past_told = L.was_told;
       first_told = L.is_told;
       wrote = wrote_then j a.journal A1.journal A2.journal _ _ L.wrote_past L.wrote_further;
-      keeps = λ through. keeps_all j p A2 (g.met.P.Policy.lawful A2.policy) two.sound (L.reading_end ∙ through);
+      keeps = λ through. keeps_all j p A2 (g.met.P.Policy.lawful A2.policy) (L.reading_end ∙ through);
       twin = λ through same entries spare alike.
           let J = ap (λ (s : State). s.journal) L.mid in
           let admits = p.admits a.policy in
@@ -55,7 +55,7 @@ returns g c =
             spare = ap (λ (w : World). w.state.spare) equal;
             moment = ap (λ (w : World). w.state.moment) equal;
             wrote = S.wrote_all;
-            keeps = keeps_all k q B2 (g.met.Q.Policy.lawful B2.policy) three.sound S.still_through;
+            keeps = keeps_all k q B2 (g.met.Q.Policy.lawful B2.policy) S.still_through;
           };
       empty = refl;
     }
