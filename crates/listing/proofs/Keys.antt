@@ -6,7 +6,8 @@ use Rattle.balances.specs.declared.balances.Balances.{Balances}
 use Rattle.balances.specs.Books.{Books, books_of}
 use Rattle.balances.specs.Queues.{line_at, no_line}
 use Rattle.listing.specs.declared.sums.Sums.{Sums}
-use Rattle.listing.specs.Pages.{Page, written}
+use Rattle.listing.specs.declared.page.Page.{Page}
+use Rattle.listing.specs.Pages.{written}
 use Rattle.listing.specs.Sums.{plus_key, plus_keys}
 use Rattle.listing.specs.Lines.{key_bytes, end_bytes, keys_bytes}
 use Rattle.listing.proofs.Writing.{written-++}

@@ -1,7 +1,7 @@
 use Rattle.std.proofs.Common.{◌≡◌, ◌-◌, length, drop}
 use Rattle.balances.specs.Books.{books_of}
 use Rattle.listing.specs.Sums.{no_sums, plus_keys}
-use Rattle.listing.proofs.sums.adding.sum_ledger.Given as goal
+use Rattle.listing.proofs.sums.sum_ledger.Given as goal
 
 abbrev pub invariant-loop-key : goal.invariant-loop-key
 invariant-loop-key l =

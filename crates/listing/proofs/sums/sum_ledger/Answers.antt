@@ -2,7 +2,7 @@ use Rattle.std.proofs.Common.{sym, ap, ◌∙◌}
 use Rattle.balances.specs.Books.{books_of}
 use Rattle.listing.specs.Sums.{plus_keys, sums_of}
 use Rattle.listing.proofs.Keys.{here, none_here, sums_more}
-use Rattle.listing.proofs.sums.adding.sum_ledger.Goals as goal
+use Rattle.listing.proofs.sums.sum_ledger.Goals as goal
 
 pub loop-key-preserved : goal.loop-key-preserved
 loop-key-preserved c =
