@@ -12,6 +12,7 @@ ghost use Rattle.listing.specs.Reports.{Reports};
 use balances::Balances;
 use meaning::Refusal;
 
+mod keys;
 mod lines;
 mod page;
 mod sums;

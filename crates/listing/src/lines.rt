@@ -1,11 +1,12 @@
 // The lines of a listing, over the keys of the report row.
-ghost use Rattle.std.specs.Prelude.{◌≡◌, ◌-◌, ◌^◌, ◌≤◌, min, length, drop};
+ghost use Rattle.std.specs.Prelude.{◌≡◌, ◌-◌, ◌^◌, ◌≤◌, min, length};
 ghost use Rattle.meaning.specs.Rows.{standing_of};
 ghost use Rattle.meaning.specs.Calls.{over};
 ghost use Rattle.balances.specs.Books.{books_of};
 ghost use Rattle.listing.specs.Pages.{written};
-ghost use Rattle.listing.specs.Lines.{account_bytes, sum_bytes, key_bytes, ends_in, end_bytes, keys_bytes};
+ghost use Rattle.listing.specs.Lines.{account_bytes, sum_bytes, key_bytes, keys_bytes};
 
+use crate::keys::Keys;
 use crate::page::Page;
 use crate::sums::{Sums, sum_ledger};
 use balances::Balances;
@@ -58,34 +59,18 @@ impl Page<'_> {
         }
     }
 
-    // The sum line of a ledger, if no key of it stands at the place.
-    fn end(&mut self, balances: &Balances, place: usize, ledger: u16)
-        ensures { self.new ≡ written (end_bytes (books_of balances.now) ledger (drop place (books_of balances.now).lines)) self.old }
-    {
-        if ends_ledger(balances, place, ledger) {
-            self.sums(ledger, &sum_ledger(balances, ledger));
-        }
-    }
-
+    // A line for each key, and a sum line where a ledger ends.
     fn keys(&mut self, balances: &Balances)
         ensures { self.new ≡ written (keys_bytes (books_of balances.now) (books_of balances.now).lines) self.old }
     {
-        let mut place: usize = 0;
-        while let Some(key) = balances.line_at(place) {
-            place += 1;
+        let mut keys = Keys::new(balances);
+        while let Some(key) = keys.next() {
             self.key(balances, &key);
-            self.end(balances, place, key.ledger);
+            if keys.end(key.ledger) {
+                self.sums(key.ledger, &sum_ledger(balances, key.ledger));
+            }
         }
     }
-}
-
-// Whether no key of the ledger stands at the place.
-fn ends_ledger(balances: &Balances, place: usize, ledger: u16) -> bool
-    ensures { result ≡ ends_in ledger (drop place (books_of balances.now).lines) }
-{
-    balances
-        .line_at(place)
-        .is_none_or(|key| key.ledger != ledger)
 }
 
 // Writes all lines, from the first byte on; their length.

@@ -4,6 +4,7 @@ ghost use Rattle.meaning.specs.Rows.{standing_of};
 ghost use Rattle.balances.specs.Books.{books_of};
 ghost use Rattle.listing.specs.Sums.{no_sums, plus, plus_key, sums_of};
 
+use crate::keys::Keys;
 use balances::Balances;
 use meaning::Account;
 use ordered::Line;
@@ -43,14 +44,13 @@ impl Sums {
 }
 
 // The sums of a ledger's accounts.
+#[tactic(auto, unfolding(crate::specs::Sums::sums_of))]
 pub(crate) fn sum_ledger(balances: &Balances, ledger: u16) -> Sums
     ensures { result ≡ sums_of (books_of balances.now) ledger }
 {
     let mut sums = Sums::default();
-    let mut place: usize = 0;
-    while let Some(key) = balances.line_at(place) {
+    for key in Keys::new(balances) {
         sums.add_key(balances, ledger, &key);
-        place += 1;
     }
     sums
 }
