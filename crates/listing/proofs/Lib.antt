@@ -1,5 +1,5 @@
 pub mod Writing
-pub mod Keys
+pub mod Row
 pub mod Room
 pub mod Small
 pub mod Summing

@@ -25,7 +25,7 @@ use Rattle.listing.specs.declared.sums.Sums.{Sums}
 use Rattle.listing.specs.Letters.{letters_in}
 use Rattle.listing.specs.Sums.{no_sums, plus, plus_keys, sums_of}
 use Rattle.listing.specs.Lines.{account_bytes, sum_bytes, bytes_if, ends_in, keys_bytes}
-use Rattle.listing.proofs.Keys.{few_keys}
+use Rattle.listing.proofs.Row.{few_keys}
 use Rattle.listing.proofs.Small.{Small, small}
 use Rattle.listing.proofs.Summing.{Shown, sum-in_order, sum_exact}
 

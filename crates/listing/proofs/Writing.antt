@@ -1,24 +1,21 @@
 -- Bytes written behind bytes: digits, fields and letters.
-use Rattle.std.proofs.Common.{◌≡◌, ℕ, ◌+◌, ◌-◌, ◌/◌, ◌%◌, ◌^◌, ◌<◌, ◌≤◌, min, Bool, true, false, cond, not, eqb, List, [], ◌∷◌, ◌++◌, length, get_or, drop, set, decimal, sym, refl, ap, ◌∙◌, arith}
-use Rattle.std.proofs.lemmas.Fmt.{decimal_digit, decimal_step, length-decimal-le}
+use Rattle.std.proofs.Common.{◌≡◌, ℕ, ◌+◌, ◌/◌, ◌%◌, ◌^◌, ◌<◌, ◌≤◌, Bool, true, false, cond, not, eqb, List, [], ◌∷◌, ◌++◌, length, get_or, drop, decimal, sym, refl, ap, ◌∙◌, arith}
+use Rattle.std.proofs.lemmas.Fmt.{decimal_digit, decimal_step}
 use Rattle.std.proofs.lemmas.List.{at_drop_more, at_drop_all}
 use Rattle.meaning.specs.Listing.{fields}
 use Rattle.listing.specs.Letters.{letters_in}
-use Rattle.listing.specs.Pages.{Page, page, written}
+use Rattle.listing.specs.declared.page.Page.{Page}
+use Rattle.listing.specs.Pages.{written}
 
 pub written-++ : (xs ys : List ℕ) (p : Page) → written (xs ++ ys) p ≡ written ys (written xs p)
 written-++ [] ys p = refl
 written-++ (x ∷ xs) ys p = written-++ xs ys _
 
-pub next_short : (bs : List ℕ) (p : Page) → (written bs p).next ≤ p.next + length bs
-next_short [] p = omega arith
-next_short (b ∷ bs) p = omega (arith, next_short bs (page (set p.bytes p.next b) (min (p.next + 1) (2 ^ 64 - 1))))
-
-pub one_digit : (n : ℕ) (p q : Page) → n < 10 → q ≡ written ((48 + n % 10) ∷ []) p → q ≡ written (decimal n) p
-one_digit n p q small e =
+pub one_digit : (n : ℕ) (p q r : Page) → n < 10 → q ≡ p → r ≡ written ((48 + n % 10) ∷ []) q → r ≡ written (decimal n) p
+one_digit n p q r small e f =
     let m : n % 10 ≡ n = omega arith in
     let d = decimal_digit n small in
-    rw d (rw m at e)
+    rw d (rw (e, m) at f)
 
 pub last_digit : (n : ℕ) (p q r : Page) → 10 ≤ n → n < 2 ^ 64 → q ≡ written (decimal (n / 10)) p → r ≡ written ((48 + n % 10) ∷ []) q → r ≡ written (decimal n) p
 last_digit n p q r big fits e f =
@@ -26,13 +23,6 @@ last_digit n p q r big fits e f =
     let d = ap (λ bs. written bs p) (decimal_step n big fits) in
     let h = ap (written ((48 + n % 10) ∷ [])) e in
     f ∙ h ∙ sym w ∙ sym d
-
-pub decimal_short : (n : ℕ) (p q : Page) → n < 2 ^ 64 → q ≡ written (decimal n) p → q.next ≤ p.next + 20
-decimal_short n p q fits e =
-    let l = length-decimal-le 20 n (omega arith) (omega arith) fits in
-    let s = next_short (decimal n) p in
-    let h = ap (λ (x : Page). x.next) e in
-    omega arith
 
 -- one field more
 pub field_more : (ns : List ℕ) (i : ℕ) (p q r : Page) → i < length ns → q ≡ written (32 ∷ []) p → r ≡ written (decimal (get_or ns i 0)) q → written (fields (drop i ns)) p ≡ written (fields (drop (i + 1) ns)) r

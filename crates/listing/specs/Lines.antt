@@ -9,15 +9,19 @@ use Rattle.listing.specs.declared.sums.Sums.{Sums}
 use Rattle.listing.specs.Letters.{letters_in}
 use Rattle.listing.specs.Sums.{sums_of}
 
--- as `7 MILL 2 0 250 0 900` and the end of the line
+-- a ledger, a name, numbers and the end of the line
+abbrev pub line_bytes : ℕ → List ℕ → List ℕ → List ℕ
+line_bytes L name ns = decimal L ++ (32 ∷ (name ++ (fields ns ++ (10 ∷ []))))
+
+-- as `7 MILL 2 0 250 0 900`
 unfoldable pub account_bytes : Standing → List ℕ
 account_bytes s =
-    decimal s.account.ledger ++ (32 ∷ (letters_in (bytes8 s.account.label) ++ (fields (s.account.number ∷ s.dp ∷ s.dq ∷ s.cp ∷ s.cq ∷ []) ++ (10 ∷ []))))
+    line_bytes s.account.ledger (letters_in (bytes8 s.account.label)) (s.account.number ∷ s.dp ∷ s.dq ∷ s.cp ∷ s.cq ∷ [])
 
--- as `7 = 3 0 1150 0 1150` and the end of the line; 61 is the equals sign
+-- as `7 = 3 0 1150 0 1150`; 61 is the equals sign
 unfoldable pub sum_bytes : ℕ → Sums → List ℕ
 sum_bytes L s =
-    decimal L ++ (32 ∷ (61 ∷ (fields (s.accounts ∷ s.debits_pending ∷ s.debits_posted ∷ s.credits_pending ∷ s.credits_posted ∷ []) ++ (10 ∷ []))))
+    line_bytes L (61 ∷ []) (s.accounts ∷ s.debits_pending ∷ s.debits_posted ∷ s.credits_pending ∷ s.credits_posted ∷ [])
 
 abbrev pub bytes_if : Option Standing → List ℕ
 bytes_if None = []

@@ -12,16 +12,16 @@ ghost use Rattle.listing.specs.Reports.{Reports};
 use balances::Balances;
 use meaning::Refusal;
 
-mod bytes;
+mod keys;
 mod lines;
+mod page;
 mod sums;
 
 // Writes the listing from the first byte on, or says that the buffer is too short and leaves it; the listing's length.
 pub fn report(balances: &Balances, buffer: &mut [u8]) -> Result<usize, Refusal>
     ensures { (policy : Policy) (J : Journal) (T : ℕ) → Reads policy J → books_of balances.now ≡ image_of J T → Reports J T buffer.old result buffer.new }
 {
-    let mut none: [u8; 0] = [];
-    let len = lines::put_listing(balances, &mut none);
+    let len = lines::put_listing(balances, &mut []);
     if buffer.len() < len {
         return Err(Refusal::BufferTooShort);
     }

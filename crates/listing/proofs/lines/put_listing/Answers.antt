@@ -1,20 +1,22 @@
-use Rattle.std.proofs.Common.{sym, ap, ◌∙◌, arith}
+use Rattle.std.proofs.Common.{ap, ◌∙◌, arith, rules}
 use Rattle.balances.specs.Books.{books_of}
-use Rattle.listing.specs.Pages.{page, written}
+use Rattle.listing.specs.declared.page.Page.{Page}
 use Rattle.listing.specs.Lines.{keys_bytes}
-use Rattle.listing.proofs.Keys.{here, none_here, few_keys, lines_more}
+use Rattle.listing.specs.Pages.{written}
+use Rattle.listing.proofs.Room.{home_is, next_is, bytes-over}
 use Rattle.listing.proofs.lines.put_listing.Goals as goal
 
-pub loop-key-preserved : goal.loop-key-preserved
-loop-key-preserved c =
+pub returns-clause-length : goal.returns-clause-length
+returns-clause-length c =
     let k = books_of c.args.balances.now in
-    let h = here c.loop-key.place k.lines c.in-Some.key c.in-Some.ensures in
-    let few = few_keys c.args.balances.now in
-    let more = lines_more k k.lines c.loop-key.place c.in-Some.key h (page c.loop-key.out c.loop-key.next) (page c.put_key-next.new.out c.put_key-next.result) (page c.put_end-next.new.out c.put_end-next.result) c.put_key-next.ensures.page c.put_end-next.ensures.page in
-    (sym more ∙ c.loop-key.invariant.0, omega arith, omega arith)
+    let zero = ap (λ (p : Page). p.next) c.new-page.ensures in
+    let end = ap (λ (p : Page). p.next) c.keys.ensures in
+    omega (arith, c.len.ensures, end, next_is (keys_bytes k k.lines) c.new-page.result (omega (arith, zero)), zero)
 
-pub returns : goal.returns
-returns c =
+pub returns-clause-bytes : goal.returns-clause-bytes
+returns-clause-bytes c = λ room.
     let k = books_of c.args.balances.now in
-    let end = none_here c.loop-key.place k.lines c.in_default.ensures in
-    record { page = sym (ap (λ ls. written (keys_bytes k ls) (page c.loop-key.out c.loop-key.next)) end) ∙ c.loop-key.invariant.0; short = omega arith }
+    let start = c.new-page.result in
+    let home = ap (λ (p : Page). p.bytes.ghost_name) c.keys.ensures ∙ home_is (keys_bytes k k.lines) start ∙ ap (λ (p : Page). p.bytes.ghost_name) c.new-page.ensures in
+    let bytes = ap (λ (p : Page). p.bytes.now) (c.keys.ensures ∙ ap (written (keys_bytes k k.lines)) c.new-page.ensures) ∙ bytes-over (keys_bytes k k.lines) _ (omega arith) (omega arith) in
+    search (rules, home, bytes)

@@ -1,0 +1,8 @@
+-- The keys of the report row that are still to come.
+use Rattle.std.specs.Prelude.{List, drop}
+use Rattle.ordered.specs.declared.line.Line.{Line}
+use Rattle.balances.specs.Books.{books_of}
+use Rattle.listing.specs.declared.keys.Keys.{Keys}
+
+abbrev pub left : Keys → List Line
+left s = drop s.place (books_of s.balances.now).lines

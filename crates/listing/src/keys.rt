@@ -1,0 +1,46 @@
+// The keys of the report row, one after the other.
+ghost use Rattle.std.specs.Prelude.{◌≡◌};
+ghost use Rattle.std.specs.Iterator.{YieldsFirst, item_count};
+ghost use Rattle.balances.specs.Books.{books_of};
+ghost use Rattle.listing.specs.Keys.{left};
+ghost use Rattle.listing.specs.Lines.{ends_in};
+
+use balances::Balances;
+use ordered::Line;
+
+#[derive(Drop)]
+pub(crate) struct Keys<'a> {
+    balances: &'a Balances,
+    place: usize,
+}
+
+impl<'a> Keys<'a> {
+    pub(crate) fn new(balances: &'a Balances) -> Keys<'a>
+        ensures { left result ≡ (books_of balances.now).lines }
+    {
+        Keys { balances, place: 0 }
+    }
+
+    // Whether no key of the ledger comes next.
+    pub(crate) fn end(&self, ledger: u16) -> bool
+        ensures { result ≡ ends_in ledger (left self.now) }
+    {
+        self.balances
+            .line_at(self.place)
+            .is_none_or(|key| key.ledger != ledger)
+    }
+}
+
+impl Iterator for Keys<'_> {
+    type Item = Line;
+
+    ghost next_gives = { YieldsFirst left };
+
+    ghost remaining = { item_count left };
+
+    fn next(&mut self) -> Option<Line> {
+        let key = self.balances.line_at(self.place)?;
+        self.place += 1;
+        Some(key)
+    }
+}
