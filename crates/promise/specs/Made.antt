@@ -1,4 +1,4 @@
--- What a call, and a list of calls, makes of a book with a past and of a desk.
+-- What a call, and a list of calls, makes of a book and of a desk.
 use Rattle.std.specs.Prelude.{◌≡◌, List}
 use Rattle.meaning.specs.declared.order.Order.{Order}
 use Rattle.meaning.specs.declared.record.Record.{Record}

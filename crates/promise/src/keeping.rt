@@ -1,4 +1,4 @@
-// What every book with a past keeps.
+// What every book keeps.
 ghost use Rattle.std.specs.Prelude.{◌≡◌};
 ghost use Rattle.meaning.specs.Reading.{reading as reading_of};
 ghost use Rattle.steps.specs.Written.{journal_of};
