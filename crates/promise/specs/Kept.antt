@@ -1,4 +1,4 @@
--- What a book keeps, whatever that past was: J stands for its journal's records and T for its moment.
+-- What every book keeps that was read through, whatever its past: J stands for its journal's records and T for its moment.
 use Rattle.std.specs.Prelude.{◌≡◌}
 use Rattle.meaning.specs.Given.{accounts, reservations}
 use Rattle.meaning.specs.Questions.{standing, with_fate}
