@@ -16,13 +16,13 @@ pub struct Row<T: Copy, const N: usize> {
 
 // Clauses see the items.
 impl<T: Copy, const N: usize> Model for Row<T, N> {
-    ghost use Rattle.std.specs.Prelude.{◌≡◌, ◌≤◌, List, length, take};
+    ghost use Rattle.std.specs.Prelude.{◌≤◌, List, take};
 
     ghost Value = { List T };
 
     ghost view = { λ r. take r.len r.places };
 
-    ghost invariant = { λ r. (r.len ≤ N) × (length r.places ≡ N) };
+    ghost invariant = { λ r. r.len ≤ N };
 }
 
 impl<T: Copy, const N: usize> Row<T, N> {
@@ -74,6 +74,7 @@ impl<T: Copy, const N: usize> Row<T, N> {
     }
 
     // Changes the item at a place, where there is one.
+    // What Rattle asks of each call of a closure stands as the `requires`: that it may be called.
     pub fn change<F: FnOnce(&mut T)>(&mut self, place: usize, change: F)
         requires { F.IsAlwaysCallable change }
         ensures there { place < length self.old → (item : T) × FnOnceReturnsAtMut F.FnOnce change (slice_index_or self.old place item) tt item × (self.new ≡ slice_set self.old place item) }

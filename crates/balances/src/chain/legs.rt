@@ -24,12 +24,16 @@ impl Chain<'_> {
     {
         self.balances.tables.check_number(number)?;
         check_amount(amount)?;
-        let Some(from) = self.balances.tables.account(debit) else {
-            return Err(Refusal::DebitUnknown);
-        };
-        let Some(to) = self.balances.tables.account(credit) else {
-            return Err(Refusal::CreditUnknown);
-        };
+        let from = self
+            .balances
+            .tables
+            .account(debit)
+            .ok_or(Refusal::DebitUnknown)?;
+        let to = self
+            .balances
+            .tables
+            .account(credit)
+            .ok_or(Refusal::CreditUnknown)?;
         check_pair(&from, &to, amount)?;
         Ok(Outlook {
             debit: from,

@@ -1,11 +1,12 @@
 // Which legs the tables refuse.
-ghost use Rattle.std.specs.Prelude.{◌≡◌};
+ghost use Rattle.std.specs.Prelude.{◌≡◌, IfOk};
+ghost use Rattle.balances.specs.Contents.{held_asked};
 ghost use Rattle.meaning.specs.Rows.{standing_of};
 ghost use Rattle.balances.specs.Judged.{refusal_in, number_judged, amount_judged, pair_judged, room_judged, fate_judged, part_of_judged, void_judged, post_judged};
 
 use super::Tables;
 use meaning::limits::TOP;
-use meaning::{Account, Fate, Refusal};
+use meaning::{Account, Fate, Refusal, Reservation};
 
 // An amount from 1 to the top.
 pub(crate) fn check_amount(amount: u64) -> Result<(), Refusal>
@@ -79,18 +80,20 @@ impl Tables {
         Ok(())
     }
 
-    // A reservation that may be closed.
-    pub(crate) fn check_void(&self, number: u32, reservation: u32) -> Result<(), Refusal>
-        ensures { refusal_in result ≡ void_judged number reservation self.now }
+    // The reservation of a number, which may be closed.
+    pub(crate) fn check_void(&self, number: u32, reservation: u32) -> Result<Reservation, Refusal>
+        ensures answer { refusal_in result ≡ void_judged number reservation self.now }
+        ensures found { IfOk result (λ held. held_asked self.now reservation ≡ Some held) }
     {
         self.check_number(number)?;
-        match self.reservation(reservation) {
-            Some(held) => check_fate(held.fate),
-            None => Err(Refusal::ReservationUnknown),
-        }
+        let held = self
+            .reservation(reservation)
+            .ok_or(Refusal::ReservationUnknown)?;
+        check_fate(held.fate)?;
+        Ok(held)
     }
 
-    // A reservation that may be closed by a post of so much.
+    // The same by a post of so much.
     pub(crate) fn check_post(
         &self,
         number: u32,
@@ -99,10 +102,7 @@ impl Tables {
     ) -> Result<(), Refusal>
         ensures { refusal_in result ≡ post_judged number reservation amount self.now }
     {
-        self.check_void(number, reservation)?;
-        match self.reservation(reservation) {
-            Some(held) => check_part(held.amount, amount),
-            None => Ok(()),
-        }
+        let held = self.check_void(number, reservation)?;
+        check_part(held.amount, amount)
     }
 }

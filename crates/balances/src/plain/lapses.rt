@@ -43,10 +43,7 @@ impl Tables {
     pub(crate) fn next_deadline(&self) -> u64
         ensures { result ≡ deadline_in (first self.now.queue) }
     {
-        match self.first_due() {
-            Some(key) => key.deadline,
-            None => 0,
-        }
+        self.first_due().map_or(0, |key| key.deadline)
     }
 }
 

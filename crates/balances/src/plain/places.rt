@@ -11,6 +11,7 @@ use crate::numbered::place_of;
 use meaning::{Account, Reservation};
 use ordered::Line;
 
+// A place is no `Option`: a row takes any place, and a chain notes the place past the end for none.
 impl Tables {
     // The place of an account, or how many there are.
     pub(super) fn account_place(&self, number: u32) -> usize
