@@ -1,35 +1,31 @@
--- Going through a list for a number, place by place.
-use Rattle.std.proofs.Common.{◌≡◌, ℕ, ◌+◌, ◌<◌, ◌≤◌, cond, eqb, leb, List, map, length, get_or, drop, sym, ap, ◌∙◌, arith}
-use Rattle.std.proofs.lemmas.List.{drop-map, drop_more, at_drop_all, length-map}
-use Rattle.std.proofs.lemmas.Bool.{eq-eqb, ne_eqb, le-leb, lt-leb, cond-true, cond-false}
+-- Going through a list from the front.
+use Rattle.std.proofs.Common.{◌≡◌, ℕ, ◌+◌, true, false, not, cond, eqb, leb, List, [], ◌∷◌, map, refl, arith}
+use Rattle.std.specs.List.{prefix_len}
 use Rattle.ordered.specs.declared.due.Due.{Due}
 use Rattle.balances.specs.Places.{place_of}
 use Rattle.balances.specs.Queues.{due_count}
 
-module _ {X : Type 0} (f : X → ℕ) (n : ℕ) (xs : List X) (i : ℕ) where
-  module _ (x : X) (lt : i < length xs) (is : x ≡ get_or xs i x) where
-    next : place_of n (drop i (map f xs)) ≡ cond (eqb (f x) n) 0 (place_of n (drop (i + 1) (map f xs)) + 1)
-    next =
-        ap (place_of n) (drop-map f i xs)
-        ∙ (ap (λ ys. place_of n (map f ys)) (drop_more xs i x lt)
-        ∙ (ap (λ y. cond (eqb (f y) n) 0 (place_of n (map f (drop (i + 1) xs)) + 1)) (sym is) ∙ ap (λ ms. cond (eqb (f x) n) 0 (place_of n ms + 1)) (sym (drop-map f (i + 1) xs))))
+-- one more in front
+more : {m n : ℕ} → m ≡ n → 1 + m ≡ n + 1
+more e = omega (arith, e)
 
-    pub found_here : f x ≡ n → place_of n (drop i (map f xs)) ≡ 0
-    found_here e = next ∙ cond-true (eqb (f x) n) _ _ (eq-eqb (f x) n e)
+-- as many come before a number as its place says
+pub before_number : {X : Type 0} (f : X → ℕ) (n : ℕ) (xs : List X) → prefix_len (λ x. not (eqb (f x) n)) xs ≡ place_of n (map f xs)
+before_number f n [] = refl
+before_number f n (x ∷ xs) =
+    let r = more (before_number f n xs) in
+    elim (eqb (f x) n) as (λ b. cond (not b) (1 + prefix_len (λ x. not (eqb (f x) n)) xs) 0 ≡ cond b 0 (place_of n (map f xs) + 1)) [ true ↦ refl | false ↦ r ]
 
-    pub found_later : (f x ≡ n → ⊥) → place_of n (drop i (map f xs)) ≡ place_of n (drop (i + 1) (map f xs)) + 1
-    found_later ne = next ∙ cond-false (eqb (f x) n) _ _ (ne_eqb (f x) n ne)
+-- the same of numbers that are seen through a view
+pub before_shown : {X Y : Type 0} (g : X → Y) (f : Y → ℕ) (n : ℕ) (xs : List X) → prefix_len (λ x. not (eqb (f (g x)) n)) xs ≡ place_of n (map f (map g xs))
+before_shown g f n [] = refl
+before_shown g f n (x ∷ xs) =
+    let r = more (before_shown g f n xs) in
+    elim (eqb (f (g x)) n) as (λ b. cond (not b) (1 + prefix_len (λ x. not (eqb (f (g x)) n)) xs) 0 ≡ cond b 0 (place_of n (map f (map g xs)) + 1)) [ true ↦ refl | false ↦ r ]
 
-  pub found_nowhere : length xs ≤ i → place_of n (drop i (map f xs)) ≡ 0
-  found_nowhere le = at_drop_all (place_of n) (map f xs) i (omega (arith, length-map xs f))
-
--- going through the keys of a queue
-module _ (t : ℕ) (ks : List Due) (i : ℕ) (d : Due) (lt : i < length ks) where
-  next-due : due_count t (drop i ks) ≡ cond (leb (get_or ks i d).deadline t) (due_count t (drop (i + 1) ks) + 1) 0
-  next-due = ap (due_count t) (drop_more ks i d lt)
-
-  pub due_here : (get_or ks i d).deadline ≤ t → due_count t (drop i ks) ≡ due_count t (drop (i + 1) ks) + 1
-  due_here le = next-due ∙ cond-true (leb (get_or ks i d).deadline t) _ _ (le-leb (get_or ks i d).deadline t le)
-
-  pub due_no_more : t < (get_or ks i d).deadline → due_count t (drop i ks) ≡ 0
-  due_no_more gt = next-due ∙ cond-false (leb (get_or ks i d).deadline t) _ _ (lt-leb (get_or ks i d).deadline t gt)
+-- as many come before a later deadline as have come due
+pub before_later : (t : ℕ) (ds : List Due) → prefix_len (λ (d : Due). leb d.deadline t) ds ≡ due_count t ds
+before_later t [] = refl
+before_later t (d ∷ ds) =
+    let r = more (before_later t ds) in
+    elim (leb d.deadline t) as (λ b. cond b (1 + prefix_len (λ (d : Due). leb d.deadline t) ds) 0 ≡ cond b (due_count t ds + 1) 0) [ true ↦ r | false ↦ refl ]

@@ -1,16 +1,17 @@
 -- A leg that is put back leaves the tables as they were.
-use Rattle.std.proofs.Common.{◌≡◌, ℕ, ◌+◌, ◌-◌, ◌<◌, ◌≤◌, Bool, true, false, cond, ltb, List, [], ◌∷◌, ◌++◌, map, length, get_or, take, set, sym, refl, ap, ◌∙◌, ⊎_elim, arith}
+use Rattle.std.proofs.Common.{◌≡◌, ℕ, ◌+◌, ◌<◌, Bool, true, false, cond, ltb, List, [], ◌∷◌, ◌++◌, length, get_or, take, set, sym, refl, ap, ◌∙◌, ⊎_elim, arith}
 use lib.Seq.{set_out}
-use Rattle.std.proofs.lemmas.List.{set-set, set_comm, set-get_or, take_all, take_at, set_at, map_more, length_push}
+use Rattle.std.proofs.lemmas.List.{set-set, set_comm, set-get_or, take_all, take_at, set_at, length_push}
 use Rattle.std.proofs.lemmas.Bool.{cases_eq, lt-ltb, cond-true}
 use Rattle.meaning.specs.declared.reservation.Reservation.{Reservation}
 use Rattle.meaning.specs.declared.fate.Event.{Event}
 use Rattle.meaning.specs.Questions.{Standing}
 use Rattle.meaning.specs.Rows.{credited, credit_released}
 use Rattle.ordered.specs.declared.due.Due.{Due}
-use Rattle.balances.specs.Books.{Books, row_place, no_row, no_reservation}
+use Rattle.balances.specs.Contents.{Books, row_place, no_row, no_reservation}
 use Rattle.balances.specs.Legs.{tracing, moved, numbered, waits, transferred, reserved, closed}
-use Rattle.balances.specs.Undone.{Trace, undone, unwound, Noted, with_trace, with_queue, restored}
+use Rattle.balances.specs.Noted.{Trace, Noted, with_trace}
+use Rattle.balances.specs.Undone.{undone, unwound, with_queue, restored}
 use Rattle.balances.proofs.Tables.{books}
 
 -- the latest leg is put back first
@@ -88,12 +89,6 @@ leg_more n n' t e lt =
     let room = lt-ltb (length n.traces) 16 lt in
     ap (λ m. length m.traces) (e ∙ cond-true (ltb (length n.traces) 16) _ _ room) ∙ length_push n.traces t
 
-abbrev pub noted : List Trace → List Due → Noted
-noted ts q = record { traces = ts; queue = q }
-
--- the latest leg is taken from the table and put back
-pub latest_back : {X : Type 0} (f : X → Trace) (xs : List X) (n : ℕ) (d : X) (q : List Due) (k : Books) → 0 < n → n ≤ length xs → restored (noted (map f (take n xs)) q) k ≡ restored (noted (map f (take (n - 1) xs)) q) (undone (f (get_or xs (n - 1) d)) k)
-latest_back f xs n d q k pos le =
-    let e : n ≡ n - 1 + 1 = omega arith in
-    ap (λ m. restored (noted (map f (take m xs)) q) k) e
-    ∙ (ap (λ ts. restored (noted ts q) k) (map_more f xs (n - 1) d (omega arith)) ∙ ap (with_queue q) (unwound_push (map f (take (n - 1) xs)) (f (get_or xs (n - 1) d)) k))
+-- the latest leg is taken from the notes and put back
+pub latest_back : (n n' : Noted) (t : Trace) (k k' : Books) → n.traces ≡ n'.traces ++ (t ∷ []) → n'.queue ≡ n.queue → k' ≡ undone t k → restored n' k' ≡ restored n k
+latest_back n n' t k k' last same back = λ i. with_queue (same i) ((ap (unwound n'.traces) back ∙ (sym (unwound_push n'.traces t k) ∙ ap (λ ts. unwound ts k) (sym last))) i)

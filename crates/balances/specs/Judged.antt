@@ -8,8 +8,8 @@ use Rattle.meaning.specs.declared.fate.Fate.TheVariants.{Live, Posted, Voided, L
 use Rattle.meaning.specs.Sound.{top, fits}
 use Rattle.meaning.specs.Basics.{or_else, first_of}
 use Rattle.meaning.specs.Questions.{Standing}
-use Rattle.balances.specs.Books.{Books, row_asked, held_asked}
-use Rattle.balances.specs.Undone.{Noted}
+use Rattle.balances.specs.Contents.{Books, row_asked, held_asked}
+use Rattle.balances.specs.Noted.{Noted}
 
 -- why a call was refused, if it was
 abbrev pub refusal_in : {X : Type 0} → Result X Refusal → Option Refusal

@@ -1,7 +1,7 @@
 -- What falls due.
 use Rattle.std.specs.Prelude.{ℕ, cond, Some, None, Option, nat_le}
 use Rattle.ordered.specs.declared.due.Due.{Due}
-use Rattle.balances.specs.Books.{Books}
+use Rattle.balances.specs.Contents.{Books}
 use Rattle.balances.specs.Legs.{lapsed}
 use Rattle.balances.specs.Queues.{first}
 

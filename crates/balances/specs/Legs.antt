@@ -8,8 +8,8 @@ use Rattle.ordered.specs.declared.due.Due.{Due}
 use Rattle.ordered.specs.Orders.{due_before}
 use Rattle.ordered.specs.Rows.{without}
 use Rattle.balances.specs.Queues.{joined}
-use Rattle.balances.specs.Books.{Books, row_place, held_place, with_row, no_row, no_reservation}
-use Rattle.balances.specs.Undone.{Trace}
+use Rattle.balances.specs.Contents.{Books, row_place, held_place, with_row, no_row, no_reservation}
+use Rattle.balances.specs.Noted.{Trace}
 
 -- what is at hand before a leg between two accounts, and on the reservation at a place
 abbrev pub tracing : (debit credit slot : ℕ) → Books → Trace

@@ -1,6 +1,8 @@
 pub mod Queues
 pub mod Places
+pub mod Contents
 pub mod Books
+pub mod Noted
 pub mod Undone
 pub mod Legs
 pub mod Judged

@@ -1,14 +1,9 @@
--- The keys that the queue and the report row hold.
-use Rattle.std.specs.Prelude.{ℕ, ◌+◌, cond, List, [], ◌∷◌, length, take, Some, None, Option, nat_le, nat_lt, slice_index_or}
+-- The keys of the queue and of the report row.
+use Rattle.std.specs.Prelude.{ℕ, ◌+◌, cond, List, [], ◌∷◌, length, Some, None, Option, nat_le, nat_lt, slice_index_or}
 use Rattle.ordered.specs.declared.due.Due.{Due}
 use Rattle.meaning.specs.Basics.{put}
 use Rattle.ordered.specs.declared.line.Line.{Line}
 use Rattle.ordered.specs.Orders.{due_before, line_before}
-use Rattle.balances.specs.declared.queue.Queue.{Queue}
-use Rattle.balances.specs.declared.report.Report.{Report}
-
-abbrev pub keys_of : Queue → List Due
-keys_of q = take q.len q.row
 
 -- one more key, unless there are 256 already
 abbrev pub joined : Due → List Due → List Due
@@ -17,9 +12,6 @@ joined k ks = cond (nat_lt (length ks) 256) (put due_before k ks) ks
 abbrev pub first : {X : Type 0} → List X → Option X
 first [] = None
 first (x ∷ xs) = Some x
-
-abbrev pub lines_of : Report → List Line
-lines_of q = take q.len q.row
 
 -- one more key, unless there are 64 already
 abbrev pub listed : Line → List Line → List Line

@@ -54,7 +54,6 @@ impl<'a> Chain<'a> {
     // Keeps the legs, and gives the tables back.
     pub fn keep(self) -> Receipt
         ensures books { books_of self.exit.0.now ≡ books_of self.entry.balances.now }
-        ensures legs { result.legs ≡ self.entry.balances.now.legs }
         ensures noted { result.legs ≡ legs_of self.entry.balances.now }
     {
         let Chain { balances } = self;

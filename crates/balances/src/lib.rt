@@ -3,13 +3,11 @@
 
 pub mod balances;
 pub mod chain;
-pub mod numbered;
+mod notes;
+mod numbered;
 pub mod outlook;
-pub mod queue;
-pub mod report;
+mod plain;
 
 pub use balances::Balances;
 pub use chain::{Chain, Receipt};
 pub use outlook::Outlook;
-pub use queue::Queue;
-pub use report::Report;

@@ -1,10 +1,10 @@
 // Things that are known by a number, and how one is found.
-ghost use Rattle.std.specs.Prelude.{◌≡◌, ℕ, ◌≤◌, map, length};
-ghost use Rattle.balances.specs.Places.{place_of};
+ghost use Rattle.std.specs.Prelude.{◌≡◌, ℕ, ◌==◌, not};
+ghost use Rattle.std.specs.List.{prefix_len};
 
 use meaning::{Account, Reservation};
 
-pub trait Numbered {
+pub(crate) trait Numbered {
     ghost number: { Self → ℕ };
 
     fn number(&self) -> u32
@@ -28,14 +28,11 @@ impl Numbered for Reservation {
 }
 
 // The first place of a number among the items, or how many they are.
-pub fn place_of<T: Numbered>(items: &[T], number: u32) -> usize
-    ensures place { result ≡ place_of number (map T.Numbered.number items.now) }
-    ensures within { result ≤ length items.now }
+pub(crate) fn place_of<T: Numbered>(items: &[T], number: u32) -> usize
+    ensures { result ≡ prefix_len (λ x. not (T.Numbered.number x == number)) items.now }
 {
-    for i in 0..items.len() {
-        if items[i].number() == number {
-            return i;
-        }
-    }
-    items.len()
+    items
+        .iter()
+        .take_while(|item| item.number() != number)
+        .count()
 }

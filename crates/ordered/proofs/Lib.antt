@@ -1,4 +1,3 @@
-pub mod Fronts
 pub mod Shifts
 pub mod Places
 pub mod Orderly

@@ -1,42 +1,49 @@
--- What the passes over a row know when a key is passed, and where they stop.
-use Rattle.std.proofs.Common.{◌≡◌, ℕ, ◌+◌, ◌<◌, ◌≤◌, Bool, true, false, List, [], ◌∷◌, ◌++◌, length, get_or, take, drop, refl, add-one}
-use Rattle.std.specs.List.{insert, remove}
-use Rattle.std.proofs.lemmas.List.{drop_all, take_all, append-nil}
+-- Where a key is put in, and where it is taken out.
+use Rattle.std.proofs.Common.{◌≡◌, ℕ, suc, ◌≤◌, Bool, true, false, not, cond, ltb, List, [], ◌∷◌, length, position, Some, None, refl, ap, sym, ◌∙◌, arith, one-add}
+use Rattle.std.specs.List.{insert, remove, prefix_len, position_or_len}
+use Rattle.std.proofs.lemmas.Option.{none-some, cond_some}
+use Rattle.std.proofs.lemmas.Bool.{ltb-false}
+use Rattle.std.proofs.lemmas.List.{take_all, drop_all, append-nil}
 use Rattle.meaning.specs.Basics.{put}
 use Rattle.ordered.specs.Rows.{apart, without}
-use Rattle.ordered.proofs.Fronts.{rest_is, pass}
 
-module _ {K : Type 0} (before : K → K → Bool) (k : K) (xs : List K) where
-  module _ (i : ℕ) (x : K) (within : i < length xs) (read : x ≡ get_or xs i x) where
-    pub put_pass : before k x ≡ false → take i xs ++ put before k (drop i xs) ≡ put before k xs → take (i + 1) xs ++ put before k (drop (i + 1) xs) ≡ put before k xs
-    put_pass e inv = pass xs i x within read (put before k) (put before k xs) (rw e) inv
+module _ {K : Type 0} (before : K → K → Bool) (k : K) where
+  -- behind all at the front that come no later
+  pub put_at_place : (xs : List K) → insert xs (prefix_len (λ x. not (before k x)) xs) k ≡ put before k xs
+  put_at_place [] = refl
+  put_at_place (x ∷ xs) = go (before k x) refl (put_at_place xs)
+    where
+      go : (b : Bool) → before k x ≡ b → insert xs (prefix_len (λ x. not (before k x)) xs) k ≡ put before k xs → insert (x ∷ xs) (prefix_len (λ x. not (before k x)) (x ∷ xs)) k ≡ put before k (x ∷ xs)
+      go true e r = rw e
+      go false e r = rw e (rw (one-add (prefix_len (λ x. not (before k x)) xs)) (ap (λ ys. x ∷ ys) r))
 
-    pub put_stop : before k x ≡ true → take i xs ++ put before k (drop i xs) ≡ put before k xs → insert xs i k ≡ put before k xs
-    put_stop e inv =
-        let r = rest_is xs i x within read in
-        let here : put before k (drop i xs) ≡ k ∷ drop i xs = rw r (rw e) in
-        cc
+  -- at the first that is the same
+  abbrev same : K → Bool
+  same x = not (apart before k x)
 
-    pub without_pass : apart before k x ≡ true → take i xs ++ without before k (drop i xs) ≡ without before k xs → take (i + 1) xs ++ without before k (drop (i + 1) xs) ≡ without before k xs
-    without_pass e inv = pass xs i x within read (without before k) (without before k xs) (rw e) inv
+  without_at_place : (xs : List K) → remove xs (position_or_len same xs) ≡ without before k xs
+  without_at_place [] = refl
+  without_at_place (x ∷ xs) = go (apart before k x) refl (without_at_place xs)
+    where
+      go : (b : Bool) → apart before k x ≡ b → remove xs (position_or_len same xs) ≡ without before k xs → remove (x ∷ xs) (position_or_len same (x ∷ xs)) ≡ without before k (x ∷ xs)
+      go true e r = rw e (rw (one-add (position_or_len same xs)) (ap (λ ys. x ∷ ys) r))
+      go false e r = rw e
 
-    pub without_stop : apart before k x ≡ false → take i xs ++ without before k (drop i xs) ≡ without before k xs → remove xs i ≡ without before k xs
-    without_stop e inv =
-        let r = rest_is xs i x within read in
-        let here : without before k (drop i xs) ≡ drop (i + 1) xs = rw r (rw e) in
-        let s = add-one i in
-        cc
+  pub without_found : (xs : List K) (i : ℕ) → position same xs ≡ Some i → remove xs i ≡ without before k xs
+  without_found xs i e = ap (remove xs) (sym (cond_some _ _ _ e).1) ∙ without_at_place xs
 
-  module _ (i : ℕ) (past : length xs ≤ i) where
-    pub put_end : take i xs ++ put before k (drop i xs) ≡ put before k xs → insert xs i k ≡ put before k xs
-    put_end inv =
-        let r = drop_all i xs past in
-        let here : put before k (drop i xs) ≡ k ∷ drop i xs = rw r refl in
-        cc
+  pub without_missing : (xs : List K) → position same xs ≡ None → xs ≡ without before k xs
+  without_missing xs e = go (ltb n (length xs)) refl e
+    where
+      n : ℕ
+      n = position_or_len same xs
 
-    pub without_end : take i xs ++ without before k (drop i xs) ≡ without before k xs → xs ≡ without before k xs
-    without_end inv =
-        let here : without before k (drop i xs) ≡ [] = rw (drop_all i xs past) refl in
-        let t = take_all i xs past in
-        let n = append-nil xs in
-        cc
+      go : (b : Bool) → ltb n (length xs) ≡ b → cond b (Some n) None ≡ None → xs ≡ without before k xs
+      go true f e = absurd (none-some n (sym e))
+      go false f e =
+          let past : length xs ≤ n = ltb-false n (length xs) f in
+          let front = take_all n xs past in
+          let rest = drop_all (suc n) xs (omega arith) in
+          let all = append-nil xs in
+          let at = without_at_place xs in
+          cc

@@ -7,6 +7,10 @@ use Rattle.meaning.specs.Basics.{put}
 abbrev pub count_with : {X : Type 0} → ℕ → List X → ℕ
 count_with n row = cond (nat_lt n (length row)) (n + 1) n
 
+-- a row of at most n items after a change that adds one; a full row stays as it is
+abbrev pub if_room : {X : Type 0} → ℕ → (List X → List X) → List X → List X
+if_room n f xs = cond (nat_lt (length xs) n) (f xs) xs
+
 module _ {K : Type 0} (before : K → K → Bool) where
   -- one of the two comes first, so they are not the same key
   abbrev pub apart : K → K → Bool

@@ -1,8 +1,8 @@
-// Keys in order in the first places of a slice.
+// Keys in order in the first places of a slice, and rows of a fixed length.
 #![tactic(auto)]
 
-ghost use Rattle.std.specs.Prelude.{◌≡◌, ◌+◌, ◌-◌, ◌<◌, ◌≤◌, Bool, true, false, ◌++◌, length, take, drop};
-ghost use Rattle.std.specs.List.{insert, remove};
+ghost use Rattle.std.specs.Prelude.{◌≡◌, ◌+◌, ◌-◌, ◌<◌, ◌≤◌, Bool, true, false, ◌++◌, length, take, drop, not, position};
+ghost use Rattle.std.specs.List.{insert, remove, prefix_len};
 ghost use Rattle.meaning.specs.Basics.{put as put_in};
 ghost use Rattle.ordered.specs.Laws.{Lawful, StaysInOrder, AnyOrderIn, TakenOut, TestsPassThrough, FrontsPass};
 ghost use Rattle.ordered.specs.Keyed.{KeysAgree};
@@ -11,11 +11,14 @@ ghost use Rattle.ordered.specs.Rows.{apart, without, row_with, count_with, row_w
 
 pub mod due;
 pub mod line;
+pub mod row;
 
 pub use due::Due;
 pub use line::Line;
+pub use row::Row;
 
 // A value by which a row is kept in order.
+// Not std's `Ord`: there different keys may compare as equal, and the laws of rows need equals to be the same.
 pub trait Key: Copy {
     ghost before: { Self → Self → Bool };
 
@@ -32,14 +35,9 @@ pub trait Key: Copy {
 // The place of `key` among `keys`: behind all at the front that come no later.
 fn place<K: Key>(keys: &[K], key: &K) -> usize
     ensures within { result ≤ length keys.now }
-    ensures place { insert keys.now result key.now ≡ put_in K.before key.now keys.now }
+    ensures place { result ≡ prefix_len (λ k. not (K.before key.now k)) keys.now }
 {
-    for i in 0..keys.len() {
-        if key.is_before(&keys[i]) {
-            return i;
-        }
-    }
-    keys.len()
+    keys.iter().take_while(|k| !key.is_before(k)).count()
 }
 
 // Whether they are two different keys.
@@ -49,18 +47,11 @@ fn differ<K: Key>(a: &K, b: &K) -> bool
     a.is_before(b) || b.is_before(a)
 }
 
-// Where `key` first stands among `keys`, or how many they are.
-fn find<K: Key>(keys: &[K], key: &K) -> usize
-    ensures within { result ≤ length keys.now }
-    ensures found { result < length keys.now → remove keys.now result ≡ without K.before key.now keys.now }
-    ensures missing { length keys.now ≤ result → keys.now ≡ without K.before key.now keys.now }
+// Where `key` first stands among `keys`.
+fn find<K: Key>(keys: &[K], key: &K) -> Option<usize>
+    ensures { result ≡ position (λ k. not (apart K.before key.now k)) keys.now }
 {
-    for i in 0..keys.len() {
-        if !differ(key, &keys[i]) {
-            return i;
-        }
-    }
-    keys.len()
+    keys.iter().position(|k| !differ(key, k))
 }
 
 // Puts `key` at place `i` of the first `len`, and moves those behind it up by one.
@@ -105,7 +96,7 @@ pub fn put<K: Key>(row: &mut [K], len: usize, key: K) -> usize
     if len >= row.len() {
         return len;
     }
-    let i = place(&row[0..len], &key);
+    let i = place(&row[..len], &key);
     insert_at(row, len, i, key);
     len + 1
 }
@@ -119,12 +110,13 @@ pub fn take_out<K: Key>(row: &mut [K], len: usize, key: K) -> usize
     ensures front { take result row.new ≡ without K.before key (take len row.old) }
 {
     let end = held(row, len);
-    let i = find(&row[0..end], &key);
-    if i >= end {
-        return end;
+    match find(&row[..end], &key) {
+        Some(i) => {
+            remove_at(row, end, i);
+            end - 1
+        }
+        None => end,
     }
-    remove_at(row, end, i);
-    end - 1
 }
 
 // What rows in order keep, whatever the key: five laws.

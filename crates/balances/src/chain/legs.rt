@@ -12,8 +12,8 @@ ghost use Rattle.balances.specs.Legs.{transferred, reserved, closed};
 ghost use Rattle.balances.specs.Undone.{noted_of, legs_of, rolled_back};
 
 use super::Chain;
-use crate::balances::judging::{check_amount, check_pair};
 use crate::outlook::Outlook;
+use crate::plain::judging::{check_amount, check_pair};
 use meaning::{Event, Refusal, Reservation};
 
 impl Chain<'_> {
@@ -22,14 +22,18 @@ impl Chain<'_> {
         ensures answer { refusal_in result ≡ movement_judged number debit credit amount (books_of self.now.balances.now) }
         ensures shown { IfOk result (λ o. Shows o (row_asked (books_of self.now.balances.now) debit) (row_asked (books_of self.now.balances.now) credit)) }
     {
-        self.balances.check_number(number)?;
+        self.balances.tables.check_number(number)?;
         check_amount(amount)?;
-        let Some(from) = self.balances.account(debit) else {
-            return Err(Refusal::DebitUnknown);
-        };
-        let Some(to) = self.balances.account(credit) else {
-            return Err(Refusal::CreditUnknown);
-        };
+        let from = self
+            .balances
+            .tables
+            .account(debit)
+            .ok_or(Refusal::DebitUnknown)?;
+        let to = self
+            .balances
+            .tables
+            .account(credit)
+            .ok_or(Refusal::CreditUnknown)?;
         check_pair(&from, &to, amount)?;
         Ok(Outlook {
             debit: from,
@@ -70,7 +74,7 @@ impl Chain<'_> {
         ensures back { rolled_back self.new.balances.now ≡ rolled_back self.old.balances.now }
         ensures legs { legs_of self.new.balances.now ≡ (if is_ok result then legs_of self.old.balances.now + 1 else legs_of self.old.balances.now) }
     {
-        self.balances.check_legs()?;
+        self.balances.notes.check_legs()?;
         self.balances.transfer(number, debit, credit, amount);
         Ok(())
     }
@@ -83,8 +87,8 @@ impl Chain<'_> {
         ensures back { rolled_back self.new.balances.now ≡ rolled_back self.old.balances.now }
         ensures legs { legs_of self.new.balances.now ≡ (if is_ok result then legs_of self.old.balances.now + 1 else legs_of self.old.balances.now) }
     {
-        self.balances.check_legs()?;
-        self.balances.check_room()?;
+        self.balances.notes.check_legs()?;
+        self.balances.tables.check_room()?;
         self.balances.reserve(held);
         Ok(())
     }
@@ -97,10 +101,12 @@ impl Chain<'_> {
         ensures back { rolled_back self.new.balances.now ≡ rolled_back self.old.balances.now }
         ensures legs { legs_of self.new.balances.now ≡ (if is_ok result then legs_of self.old.balances.now + 1 else legs_of self.old.balances.now) }
     {
-        self.balances.check_post(number, reservation, amount)?;
-        self.balances.check_legs()?;
-        let slot = self.balances.reservation_place(reservation);
-        self.balances.close(number, slot, Event::Post, amount);
+        self.balances
+            .tables
+            .check_post(number, reservation, amount)?;
+        self.balances.notes.check_legs()?;
+        self.balances
+            .close(number, reservation, Event::Post, amount);
         Ok(())
     }
 
@@ -112,10 +118,9 @@ impl Chain<'_> {
         ensures back { rolled_back self.new.balances.now ≡ rolled_back self.old.balances.now }
         ensures legs { legs_of self.new.balances.now ≡ (if is_ok result then legs_of self.old.balances.now + 1 else legs_of self.old.balances.now) }
     {
-        self.balances.check_void(number, reservation)?;
-        self.balances.check_legs()?;
-        let slot = self.balances.reservation_place(reservation);
-        self.balances.close(number, slot, Event::Void, 0);
+        self.balances.tables.check_void(number, reservation)?;
+        self.balances.notes.check_legs()?;
+        self.balances.close(number, reservation, Event::Void, 0);
         Ok(())
     }
 }

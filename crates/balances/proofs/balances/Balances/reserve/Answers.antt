@@ -1,23 +1,14 @@
-use Rattle.std.proofs.Common.{sym, ap, ◌∙◌, arith}
-use Rattle.std.proofs.lemmas.List.{length-take-le}
-use Rattle.balances.specs.Books.{books_of}
-use Rattle.balances.specs.Legs.{numbered, tracing, with_held}
-use Rattle.balances.specs.Undone.{trace_of, noted_of, with_trace}
-use Rattle.balances.proofs.Tables.{used_length}
+use Rattle.std.proofs.Common.{length, ap, ◌∙◌}
+use Rattle.balances.specs.Legs.{tracing}
 use Rattle.balances.proofs.Undoing.{leg_back, leg_more, reserve_back}
 use Rattle.balances.proofs.balances.Balances.reserve.Goals as goal
 
-pub returns : goal.returns
-returns c =
-    let b = c.args.self.now in
-    let k = books_of b in
+pub returns-clause-back : goal.returns-clause-back
+returns-clause-back c =
+    let k = c.args.self.now.tables in
     let R = c.args.held in
-    let done = c.note.ensures.books ∙ ap (numbered R.number) (c.hold.ensures.books ∙ ap (with_held R) c.move_between.ensures.books) in
-    let long = used_length trace_of b.legs b.undo (omega arith) in
-    let held = length-take-le b.reserved b.reservations (omega arith) in
-    let noted = c.note.ensures.noted ∙ ap (with_trace _) (c.hold.ensures.noted ∙ c.move_between.ensures.noted) in
-    record {
-      books = done;
-      back = λ lt. leg_back (noted_of b) _ _ (tracing R.debit R.credit _ k) k _ _ noted (c.trace-undo.ensures ∙ ap (λ i. tracing R.debit R.credit i k) (sym held)) done (omega arith) (reserve_back k _ R);
-      legs = λ lt. leg_more (noted_of b) _ _ noted (omega arith);
-    }
+    let traced = c.trace.ensures ∙ ap (λ i. tracing R.debit R.credit i k) c.reserved-slot.ensures in
+    λ room. leg_back c.args.self.now.notes _ _ (tracing R.debit R.credit (length k.held) k) k _ _ c.note.ensures traced c.reserve.ensures room (reserve_back k _ R)
+
+pub returns-clause-legs : goal.returns-clause-legs
+returns-clause-legs c = λ room. leg_more c.args.self.now.notes _ _ c.note.ensures room

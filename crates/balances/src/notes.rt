@@ -1,0 +1,36 @@
+// What an open chain notes: what its legs wrote over, and the queue as it was.
+use meaning::limits::{LEGS, RESERVATIONS};
+use meaning::{Account, Reservation};
+use ordered::{Due, Row};
+use std::marker::Model;
+
+mod noting;
+
+// What a leg wrote over, so that it can be put back.
+#[derive(Clone, Copy)]
+pub struct Undo {
+    pub(crate) debit: usize,
+    pub(crate) debit_was: Account,
+    pub(crate) credit: usize,
+    pub(crate) credit_was: Account,
+    pub(crate) slot: usize,
+    pub(crate) slot_was: Reservation,
+    pub(crate) reserved_was: usize,
+    pub(crate) highest_was: u32,
+}
+
+#[derive(Drop)]
+pub struct Notes {
+    legs: Row<Undo, LEGS>,
+    queue: Row<Due, RESERVATIONS>,
+}
+
+// Clauses see what is noted.
+impl Model for Notes {
+    ghost use Rattle.std.specs.Prelude.{map};
+    ghost use Rattle.balances.specs.Noted.{Noted, trace_of};
+
+    ghost Value = { Noted };
+
+    ghost view = { λ n. record { traces = map trace_of n.legs; queue = n.queue } };
+}

@@ -1,0 +1,108 @@
+// Which legs the tables refuse.
+ghost use Rattle.std.specs.Prelude.{◌≡◌, IfOk};
+ghost use Rattle.balances.specs.Contents.{held_asked};
+ghost use Rattle.meaning.specs.Rows.{standing_of};
+ghost use Rattle.balances.specs.Judged.{refusal_in, number_judged, amount_judged, pair_judged, room_judged, fate_judged, part_of_judged, void_judged, post_judged};
+
+use super::Tables;
+use meaning::limits::TOP;
+use meaning::{Account, Fate, Refusal, Reservation};
+
+// An amount from 1 to the top.
+pub(crate) fn check_amount(amount: u64) -> Result<(), Refusal>
+    ensures { refusal_in result ≡ amount_judged amount }
+{
+    if amount == 0 || amount > TOP {
+        return Err(Refusal::Amount);
+    }
+    Ok(())
+}
+
+// So much more between two accounts.
+pub(crate) fn check_pair(debit: &Account, credit: &Account, amount: u64) -> Result<(), Refusal>
+    ensures { refusal_in result ≡ pair_judged amount (standing_of debit.now) (standing_of credit.now) }
+{
+    if debit.number == credit.number {
+        return Err(Refusal::SameAccount);
+    }
+    if debit.ledger != credit.ledger {
+        return Err(Refusal::LedgersDiffer);
+    }
+    if !debit.totals.debits.takes(amount) {
+        return Err(Refusal::TopPassed);
+    }
+    if !credit.totals.credits.takes(amount) {
+        return Err(Refusal::TopPassed);
+    }
+    Ok(())
+}
+
+// Only a live reservation may be closed.
+pub(crate) fn check_fate(fate: Fate) -> Result<(), Refusal>
+    ensures { refusal_in result ≡ fate_judged fate }
+{
+    match fate {
+        Fate::Live => Ok(()),
+        Fate::Posted => Err(Refusal::AlreadyPosted),
+        Fate::Voided => Err(Refusal::AlreadyVoided),
+        Fate::Lapsed => Err(Refusal::AlreadyLapsed),
+    }
+}
+
+// A part of what is reserved.
+pub(crate) fn check_part(reserved: u64, amount: u64) -> Result<(), Refusal>
+    ensures { refusal_in result ≡ part_of_judged amount reserved }
+{
+    if amount == 0 || amount > reserved {
+        return Err(Refusal::PostAmount);
+    }
+    Ok(())
+}
+
+impl Tables {
+    // Numbers rise.
+    pub(crate) fn check_number(&self, number: u32) -> Result<(), Refusal>
+        ensures { refusal_in result ≡ number_judged number self.now }
+    {
+        if number == 0 || number <= self.highest {
+            return Err(Refusal::OrderNumber);
+        }
+        Ok(())
+    }
+
+    // Room for one reservation more.
+    pub(crate) fn check_room(&self) -> Result<(), Refusal>
+        ensures { refusal_in result ≡ room_judged self.now }
+    {
+        if self.reservations.is_full() {
+            return Err(Refusal::ReservationsFull);
+        }
+        Ok(())
+    }
+
+    // The reservation of a number, which may be closed.
+    pub(crate) fn check_void(&self, number: u32, reservation: u32) -> Result<Reservation, Refusal>
+        ensures answer { refusal_in result ≡ void_judged number reservation self.now }
+        ensures found { IfOk result (λ held. held_asked self.now reservation ≡ Some held) }
+    {
+        self.check_number(number)?;
+        let held = self
+            .reservation(reservation)
+            .ok_or(Refusal::ReservationUnknown)?;
+        check_fate(held.fate)?;
+        Ok(held)
+    }
+
+    // The same by a post of so much.
+    pub(crate) fn check_post(
+        &self,
+        number: u32,
+        reservation: u32,
+        amount: u64,
+    ) -> Result<(), Refusal>
+        ensures { refusal_in result ≡ post_judged number reservation amount self.now }
+    {
+        let held = self.check_void(number, reservation)?;
+        check_part(held.amount, amount)
+    }
+}

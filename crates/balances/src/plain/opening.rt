@@ -1,0 +1,71 @@
+// Empty tables, and one account more.
+ghost use Rattle.std.specs.Prelude.{◌≡◌};
+ghost use Rattle.meaning.specs.Rows.{standing_of};
+ghost use Rattle.balances.specs.Contents.{empty, no_row, opened_with};
+
+use super::Tables;
+use meaning::{Account, Fate, Label, Reservation, Totals};
+use ordered::{Due, Line, Row};
+
+// What stands at no place.
+pub(crate) fn no_account() -> Account
+    ensures { standing_of result ≡ no_row }
+{
+    Account {
+        number: 0,
+        ledger: 0,
+        class: 0,
+        limit: 0,
+        label: Label::unused(),
+        totals: Totals::zero(),
+    }
+}
+
+pub(crate) const NO_RESERVATION: Reservation = Reservation {
+    number: 0,
+    debit: 0,
+    credit: 0,
+    amount: 0,
+    deadline: 0,
+    fate: Fate::Live,
+};
+
+pub(crate) const NO_DUE: Due = Due {
+    deadline: 0,
+    number: 0,
+};
+
+const NO_LINE: Line = Line {
+    ledger: 0,
+    label: 0,
+    number: 0,
+};
+
+impl Tables {
+    // No accounts, no reservations, no order taken.
+    pub(crate) fn new() -> Tables
+        ensures { result ≡ empty }
+    {
+        Tables {
+            accounts: Row::new(no_account()),
+            reservations: Row::new(NO_RESERVATION),
+            highest: 0,
+            queue: Row::new(NO_DUE),
+            lines: Row::new(NO_LINE),
+        }
+    }
+
+    // One account more, and its line, where there is room.
+    pub(crate) fn open(&mut self, account: Account)
+        ensures { self.new ≡ opened_with (standing_of account) self.old }
+    {
+        if !self.accounts.is_full() {
+            self.accounts.push(account);
+            self.lines.put(Line {
+                ledger: account.ledger,
+                label: account.label.code,
+                number: account.number,
+            });
+        }
+    }
+}

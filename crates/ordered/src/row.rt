@@ -1,0 +1,141 @@
+// A list of at most N items that lies in the value itself.
+ghost use Rattle.std.specs.Prelude.{◌≡◌, ◌<◌, ◌≤◌, ◌==◌, [], ◌∷◌, ◌++◌, length, take, slice_get, slice_index_or, slice_set, IfNone};
+ghost use Rattle.std.specs.Option.{option_to_list};
+ghost use Rattle.std.specs.Fn.{FnOnceReturnsAtMut};
+ghost use Rattle.meaning.specs.Basics.{put as put_in};
+ghost use Rattle.ordered.specs.Rows.{if_room, without};
+
+use crate::Key;
+use std::marker::Model;
+
+#[derive(Drop)]
+pub struct Row<T: Copy, const N: usize> {
+    places: [T; N],
+    len: usize,
+}
+
+// Clauses see the items.
+impl<T: Copy, const N: usize> Model for Row<T, N> {
+    ghost use Rattle.std.specs.Prelude.{◌≤◌, List, take};
+
+    ghost Value = { List T };
+
+    ghost view = { λ r. take r.len r.places };
+
+    ghost invariant = { λ r. r.len ≤ N };
+}
+
+impl<T: Copy, const N: usize> Row<T, N> {
+    // No items; the blank stands in places that hold none.
+    pub fn new(blank: T) -> Row<T, N>
+        ensures { result ≡ [] }
+    {
+        Row {
+            places: [blank; N],
+            len: 0,
+        }
+    }
+
+    pub fn as_slice(&self) -> &[T]
+        ensures items { result.now ≡ self.now }
+        ensures within { length self.now ≤ N }
+    {
+        &self.places[..self.len]
+    }
+
+    pub fn len(&self) -> usize
+        ensures count { result ≡ length self.now }
+        ensures within { length self.now ≤ N }
+    {
+        self.as_slice().len()
+    }
+
+    pub fn is_full(&self) -> bool
+        ensures full { result ≡ (length self.now == N) }
+        ensures within { length self.now ≤ N }
+    {
+        self.len == N
+    }
+
+    // The item at a place, where there is one.
+    pub fn get(&self, place: usize) -> Option<T>
+        ensures { result ≡ slice_get self.now place }
+    {
+        self.as_slice().get(place).copied()
+    }
+
+    // Another item at a place, where there is one.
+    pub fn set(&mut self, place: usize, item: T)
+        ensures { self.new ≡ slice_set self.old place item }
+    {
+        if place < self.len {
+            self.places[place] = item;
+        }
+    }
+
+    // Changes the item at a place, where there is one.
+    // What Rattle asks of each call of a closure stands as the `requires`: that it may be called.
+    pub fn change<F: FnOnce(&mut T)>(&mut self, place: usize, change: F)
+        requires { F.IsAlwaysCallable change }
+        ensures there { place < length self.old → (item : T) × FnOnceReturnsAtMut F.FnOnce change (slice_index_or self.old place item) tt item × (self.new ≡ slice_set self.old place item) }
+        ensures nowhere { length self.old ≤ place → self.new ≡ self.old }
+    {
+        if place < self.len {
+            let places = &mut self.places;
+            change(&mut places[place]);
+        }
+    }
+
+    // One item more at the end. A full row stays as it is.
+    pub fn push(&mut self, item: T)
+        ensures { self.new ≡ if_room N (λ xs. xs ++ item ∷ []) self.old }
+    {
+        if self.len < N {
+            self.places[self.len] = item;
+            self.len += 1;
+        }
+    }
+
+    // Takes the last item off.
+    pub fn pop(&mut self) -> Option<T>
+        ensures items { self.old ≡ self.new ++ option_to_list result }
+        ensures none { IfNone result (self.old ≡ []) }
+    {
+        if self.len == 0 {
+            return None;
+        }
+        self.len -= 1;
+        Some(self.places[self.len])
+    }
+
+    // Keeps so many from the front.
+    pub fn truncate(&mut self, count: usize)
+        ensures { self.new ≡ take count self.old }
+    {
+        self.len = self.len.min(count);
+    }
+
+    // The items of another row, in place of its own.
+    pub fn copy_from(&mut self, other: &Row<T, N>)
+        ensures { self.new ≡ other.now }
+    {
+        self.places = other.places;
+        self.len = other.len;
+    }
+}
+
+impl<K: Key, const N: usize> Row<K, N> {
+    // Puts a key at its place, behind its equals. A full row stays as it is.
+    pub fn put(&mut self, key: K)
+        ensures { self.new ≡ if_room N (put_in K.before key) self.old }
+    {
+        self.len = crate::put(&mut self.places, self.len, key);
+    }
+
+    // Takes the first such key out, where it is there.
+    pub fn take_out(&mut self, key: K)
+        ensures { self.new ≡ without K.before key self.old }
+    {
+        self.len = crate::take_out(&mut self.places, self.len, key);
+    }
+}
