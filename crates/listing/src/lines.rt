@@ -1,5 +1,5 @@
 // The lines of a listing, over the keys of the report row.
-ghost use Rattle.std.specs.Prelude.{◌≡◌, ◌-◌, ◌^◌, ◌≤◌, min, length, take};
+ghost use Rattle.std.specs.Prelude.{◌≡◌, ◌-◌, ◌^◌, min, length, take};
 ghost use Rattle.meaning.specs.Rows.{standing_of};
 ghost use Rattle.meaning.specs.Calls.{over};
 ghost use Rattle.balances.specs.Books.{books_of};
@@ -66,7 +66,7 @@ impl Page<'_> {
         let mut keys = Keys::new(balances);
         while let Some(key) = keys.next() {
             self.key(balances, &key);
-            if keys.end(key.ledger) {
+            if keys.ends(key.ledger) {
                 self.sums(key.ledger, &sum_ledger(balances, key.ledger));
             }
         }
