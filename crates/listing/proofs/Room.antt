@@ -1,6 +1,7 @@
 -- How long a text is, and what is written of it where there is room for all of it.
-use Rattle.std.proofs.Common.{◌≡◌, ℕ, ◌+◌, ◌-◌, ◌^◌, ◌<◌, ◌≤◌, min, List, [], ◌∷◌, ◌++◌, length, take, drop, set, sym, refl, ap, ◌∙◌, append_assoc, add-zero, zero-add, arith}
-use Rattle.std.proofs.lemmas.List.{take-append-drop, take_more_set, drop-set-lt, length-set}
+use Rattle.std.proofs.Common.{◌≡◌, ℕ, ◌+◌, ◌-◌, ◌^◌, ◌<◌, ◌≤◌, min, List, [], ◌∷◌, ◌++◌, length, take, drop, set, sym, refl, ap, ◌∙◌, ⊎_elim, append_assoc, add-zero, zero-add, arith, length-append, length-drop}
+use Rattle.std.proofs.lemmas.Bool.{cases_lt}
+use Rattle.std.proofs.lemmas.List.{take-append-drop, take_all, take_at, take_more_set, drop-set-lt, length-set, set_past}
 use Rattle.std.specs.Borrow.{MutBor}
 use Rattle.meaning.specs.Calls.{over}
 use Rattle.listing.specs.declared.page.Page.{Page}
@@ -16,23 +17,44 @@ pub home_is : (bs : List ℕ) (p : Page) → (written bs p).bytes.ghost_name ≡
 home_is [] p = refl
 home_is (b ∷ bs) p = home_is bs (with_byte b p)
 
-bytes_from : (bs : List ℕ) (p : Page) → p.next + length bs ≤ length p.bytes.now → p.next + length bs < 2 ^ 64 → (written bs p).bytes.now ≡ take p.next p.bytes.now ++ (bs ++ drop (p.next + length bs) p.bytes.now)
-bytes_from [] p room fits = rw add-zero (sym (take-append-drop p.next p.bytes.now))
-bytes_from (b ∷ bs) p room fits =
+-- bytes from a place on over those of a buffer, cut where it ends
+abbrev laid : List ℕ → ℕ → List ℕ → List ℕ
+laid bs i m = take (length m) (take i m ++ (bs ++ drop (i + length bs) m))
+
+laid_past : (bs : List ℕ) (i : ℕ) (m : List ℕ) → length m ≤ i → laid bs i m ≡ m
+laid_past bs i m past = ap (λ f. take (length m) (f ++ (bs ++ drop (i + length bs) m))) (take_all i m past) ∙ take_at m _ (length m) refl
+
+laid_more : (b : ℕ) (bs : List ℕ) (i : ℕ) (m : List ℕ) → i < length m → laid bs (i + 1) (set m i b) ≡ laid (b ∷ bs) i m
+laid_more b bs i m here =
+    let front = take_more_set m i b here in
+    let back = drop-set-lt ((i + 1) + length bs) m i b (omega arith) in
+    let end : (i + 1) + length bs ≡ i + length (b ∷ bs) = omega arith in
+    ap (λ n. take n (take (i + 1) (set m i b) ++ (bs ++ drop ((i + 1) + length bs) (set m i b)))) (length-set m i b)
+    ∙ ap (λ f. take (length m) (f ++ (bs ++ drop ((i + 1) + length bs) (set m i b)))) front
+    ∙ ap (take (length m)) (append_assoc (take i m) (b ∷ []) _)
+    ∙ ap (λ r. take (length m) (take i m ++ (b ∷ (bs ++ r)))) (back ∙ ap (λ j. drop j m) end)
+
+written_laid : (bs : List ℕ) (p : Page) → length p.bytes.now < 2 ^ 64 - 1 → (written bs p).bytes.now ≡ laid bs p.next p.bytes.now
+written_laid [] p fits =
+    let m = p.bytes.now in
+    sym (ap (λ n. take (length m) (take p.next m ++ drop n m)) (add-zero p.next) ∙ ap (take (length m)) (take-append-drop p.next m) ∙ take_all (length m) m (omega arith))
+written_laid (b ∷ bs) p fits =
     let m = p.bytes.now in
     let i = p.next in
     let q = with_byte b p in
-    let n : q.next ≡ i + 1 = omega arith in
     let long = length-set m i b in
-    let front = take_more_set m i b (omega arith) in
-    let back = drop-set-lt ((i + 1) + length bs) m i b (omega arith) in
-    let end : (i + 1) + length bs ≡ i + length (b ∷ bs) = omega arith in
-    bytes_from bs q (omega arith) (omega arith)
-    ∙ ap (λ j. take j (set m i b) ++ (bs ++ drop (j + length bs) (set m i b))) n
-    ∙ ap (λ f. f ++ (bs ++ drop ((i + 1) + length bs) (set m i b))) front
-    ∙ append_assoc (take i m) (b ∷ []) _
-    ∙ ap (λ r. take i m ++ (b ∷ (bs ++ r))) (back ∙ ap (λ j. drop j m) end)
+    written_laid bs q (omega arith)
+    ∙ ⊎_elim
+    (λ here. ap (λ j. laid bs j (set m i b)) (omega arith) ∙ laid_more b bs i m here)
+    (λ past. ap (laid bs q.next) (set_past m i b past) ∙ laid_past bs q.next m (omega arith) ∙ sym (laid_past (b ∷ bs) i m past))
+    (cases_lt i (length m))
 
--- from the first byte on, what is written stands over what was there
-pub bytes-over : (bs : List ℕ) (m : MutBor (List ℕ)) → length bs ≤ length m.now → length bs < 2 ^ 64 → (written bs (empty m)).bytes.now ≡ over bs m.now
-bytes-over bs m room fits = bytes_from bs (empty m) (omega arith) (omega arith) ∙ ap (λ n. bs ++ drop n m.now) (zero-add (length bs))
+-- from the first byte on, what is written stands over what was there, as far as there is room
+pub written_over : (bs : List ℕ) (m : MutBor (List ℕ)) → length m.now < 2 ^ 64 - 1 → (written bs (empty m)).bytes.now ≡ take (length m.now) (over bs m.now)
+written_over bs m fits = written_laid bs (empty m) fits ∙ ap (λ n. take (length m.now) (bs ++ drop n m.now)) (zero-add (length bs))
+
+pub over_whole : (bs m : List ℕ) → length bs ≤ length m → take (length m) (over bs m) ≡ over bs m
+over_whole bs m room =
+    let d = length-drop (length bs) m in
+    let l = length-append bs (drop (length bs) m) in
+    take_all (length m) (over bs m) (omega arith)

@@ -22,7 +22,7 @@ impl<'a> Keys<'a> {
     }
 
     // Whether no key of the ledger comes next.
-    pub(crate) fn end(&self, ledger: u16) -> bool
+    pub(crate) fn ends(&self, ledger: u16) -> bool
         ensures { result ≡ ends_in ledger (left self.now) }
     {
         self.balances

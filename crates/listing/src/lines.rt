@@ -1,5 +1,5 @@
 // The lines of a listing, over the keys of the report row.
-ghost use Rattle.std.specs.Prelude.{◌≡◌, ◌-◌, ◌^◌, ◌≤◌, min, length};
+ghost use Rattle.std.specs.Prelude.{◌≡◌, ◌-◌, ◌^◌, min, length, take};
 ghost use Rattle.meaning.specs.Rows.{standing_of};
 ghost use Rattle.meaning.specs.Calls.{over};
 ghost use Rattle.balances.specs.Books.{books_of};
@@ -66,17 +66,17 @@ impl Page<'_> {
         let mut keys = Keys::new(balances);
         while let Some(key) = keys.next() {
             self.key(balances, &key);
-            if keys.end(key.ledger) {
+            if keys.ends(key.ledger) {
                 self.sums(key.ledger, &sum_ledger(balances, key.ledger));
             }
         }
     }
 }
 
-// Writes all lines, from the first byte on; their length.
+// Writes all lines from the first byte on, as far as there is room; their length.
 pub(crate) fn put_listing(balances: &Balances, out: &mut [u8]) -> usize
     ensures length { result ≡ min (length (keys_bytes (books_of balances.now) (books_of balances.now).lines)) (2 ^ 64 - 1) }
-    ensures bytes { length (keys_bytes (books_of balances.now) (books_of balances.now).lines) ≤ length out.old → out.new ≡ over (keys_bytes (books_of balances.now) (books_of balances.now).lines) out.old }
+    ensures bytes { out.new ≡ take (length out.old) (over (keys_bytes (books_of balances.now) (books_of balances.now).lines) out.old) }
 {
     let mut page = Page::new(out);
     page.keys(balances);

@@ -30,6 +30,7 @@ impl<'a> Page<'a> {
         self.next
     }
 
+    // A byte behind the buffer's end is only counted. `get_mut` needs as many lines, and a proof of its own.
     fn byte(&mut self, byte: u8)
         ensures { self.new ≡ written (byte ∷ []) self.old }
     {
@@ -40,6 +41,7 @@ impl<'a> Page<'a> {
     }
 
     // A number in decimal digits, without leading zeros.
+    // By hand, since the contract of `write!` does not say when it answers `Ok`.
     fn decimal(&mut self, number: u64)
         ensures { self.new ≡ written (decimal number) self.old }
     {

@@ -6,12 +6,12 @@ use Rattle.listing.specs.Pages.{written}
 use Rattle.listing.proofs.Row.{ledger_ends, ledger_goes_on}
 use Rattle.listing.proofs.page.Page.keys.Goals as goal
 
-pub loop-key-preserved-then-end : goal.loop-key-preserved-then-end
-loop-key-preserved-then-end c =
+pub loop-key-preserved-then-ends : goal.loop-key-preserved-then-ends
+loop-key-preserved-then-ends c =
     let key = c.in-Some.key in
     let sums = c.sums.ensures ∙ ap (λ s. written (sum_bytes key.ledger s) c.key.new.self) c.sum_ledger.ensures in
-    sym (ledger_ends (books_of c.args.balances.now) (left c.loop-key.keys) (left c.next.new.self) key c.in-Some.ensures.steps c.loop-key.self c.key.new.self c.key.ensures (sym c.end.ensures ∙ c.if-end.true) c.sums.new.self sums) ∙ c.loop-key.invariant
+    sym (ledger_ends (books_of c.args.balances.now) (left c.loop-key.keys) (left c.next.new.self) key c.in-Some.ensures.steps c.loop-key.self c.key.new.self c.key.ensures (sym c.ends.ensures ∙ c.if-ends.true) c.sums.new.self sums) ∙ c.loop-key.invariant
 
 pub loop-key-preserved : goal.loop-key-preserved
 loop-key-preserved c =
-    sym (ledger_goes_on (books_of c.args.balances.now) (left c.loop-key.keys) (left c.next.new.self) c.in-Some.key c.in-Some.ensures.steps c.loop-key.self c.key.new.self c.key.ensures (sym c.end.ensures ∙ c.if-end.false)) ∙ c.loop-key.invariant
+    sym (ledger_goes_on (books_of c.args.balances.now) (left c.loop-key.keys) (left c.next.new.self) c.in-Some.key c.in-Some.ensures.steps c.loop-key.self c.key.new.self c.key.ensures (sym c.ends.ensures ∙ c.if-ends.false)) ∙ c.loop-key.invariant
