@@ -8,3 +8,4 @@ pub mod Legs
 pub mod Judged
 pub mod Outlooks
 pub mod Lapses
+pub mod Chains

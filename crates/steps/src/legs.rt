@@ -7,7 +7,8 @@ ghost use Rattle.meaning.specs.Rows.{standing_of};
 ghost use Rattle.meaning.specs.Rules.{Policy as Admission, deadline as deadline_of, content_of};
 ghost use Rattle.meaning.specs.Sound.{last, is_until};
 ghost use Rattle.balances.specs.Judged.{refusal_in};
-ghost use Rattle.balances.specs.Undone.{rolled_back, legs_of};
+ghost use Rattle.balances.specs.Chains.{GoesOn};
+ghost use Rattle.balances.specs.Undone.{legs_of};
 ghost use Rattle.steps.specs.Legs.{asked_of, movement_refused, Narrow};
 ghost use Rattle.steps.specs.Shown.{Shown, Stepped};
 
@@ -65,9 +66,7 @@ fn take_transfer<P: Policy>(
     credit: u32,
     amount: u64,
 ) -> Result<(), Refusal>
-    ensures same { chain.new.balances.ghost_name ≡ chain.old.balances.ghost_name }
-    ensures back { rolled_back chain.new.balances.now ≡ rolled_back chain.old.balances.now }
-    ensures legs { legs_of chain.new.balances.now ≡ (if is_ok result then legs_of chain.old.balances.now + 1 else legs_of chain.old.balances.now) }
+    ensures goes_on { GoesOn chain.old (is_ok result) chain.new }
     ensures leg { (J : Journal) (T : ℕ) → Shown (P.Policy.admits policy.now) J T chain.old.balances.now → legs_of chain.old.balances.now < 16 → Stepped (P.Policy.admits policy.now) J T number (Transfer debit credit amount) result chain.new.balances.now }
 {
     check_movement(chain, policy, number, debit, credit, 0, amount)?;
@@ -79,9 +78,7 @@ fn take_reserve<P: Policy>(
     policy: &P,
     held: Reservation,
 ) -> Result<(), Refusal>
-    ensures same { chain.new.balances.ghost_name ≡ chain.old.balances.ghost_name }
-    ensures back { rolled_back chain.new.balances.now ≡ rolled_back chain.old.balances.now }
-    ensures legs { legs_of chain.new.balances.now ≡ (if is_ok result then legs_of chain.old.balances.now + 1 else legs_of chain.old.balances.now) }
+    ensures goes_on { GoesOn chain.old (is_ok result) chain.new }
     ensures leg { (J : Journal) (T : ℕ) → Shown (P.Policy.admits policy.now) J T chain.old.balances.now → legs_of chain.old.balances.now < 16 → held.fate ≡ Live → is_until T held.deadline ≡ true → Stepped (P.Policy.admits policy.now) J T held.number (Reserve held.debit held.credit held.amount held.deadline) result chain.new.balances.now }
 {
     check_movement(
@@ -102,18 +99,14 @@ fn take_post(
     reservation: u32,
     amount: u64,
 ) -> Result<(), Refusal>
-    ensures same { chain.new.balances.ghost_name ≡ chain.old.balances.ghost_name }
-    ensures back { rolled_back chain.new.balances.now ≡ rolled_back chain.old.balances.now }
-    ensures legs { legs_of chain.new.balances.now ≡ (if is_ok result then legs_of chain.old.balances.now + 1 else legs_of chain.old.balances.now) }
+    ensures goes_on { GoesOn chain.old (is_ok result) chain.new }
     ensures leg { (policy : Admission) (J : Journal) (T : ℕ) → Shown policy J T chain.old.balances.now → legs_of chain.old.balances.now < 16 → Stepped policy J T number (Post reservation amount) result chain.new.balances.now }
 {
     chain.post(number, reservation, amount)
 }
 
 fn take_void(chain: &mut Chain<'_>, number: u32, reservation: u32) -> Result<(), Refusal>
-    ensures same { chain.new.balances.ghost_name ≡ chain.old.balances.ghost_name }
-    ensures back { rolled_back chain.new.balances.now ≡ rolled_back chain.old.balances.now }
-    ensures legs { legs_of chain.new.balances.now ≡ (if is_ok result then legs_of chain.old.balances.now + 1 else legs_of chain.old.balances.now) }
+    ensures goes_on { GoesOn chain.old (is_ok result) chain.new }
     ensures leg { (policy : Admission) (J : Journal) (T : ℕ) → Shown policy J T chain.old.balances.now → legs_of chain.old.balances.now < 16 → Stepped policy J T number (Void reservation) result chain.new.balances.now }
 {
     chain.void(number, reservation)
@@ -126,9 +119,7 @@ pub fn run_leg<P: Policy>(
     moment: u64,
     order: &Order,
 ) -> Result<(), Refusal>
-    ensures same { chain.new.balances.ghost_name ≡ chain.old.balances.ghost_name }
-    ensures back { rolled_back chain.new.balances.now ≡ rolled_back chain.old.balances.now }
-    ensures legs { legs_of chain.new.balances.now ≡ (if is_ok result then legs_of chain.old.balances.now + 1 else legs_of chain.old.balances.now) }
+    ensures goes_on { GoesOn chain.old (is_ok result) chain.new }
     ensures leg { (J : Journal) → Shown (P.Policy.admits policy.now) J moment chain.old.balances.now → legs_of chain.old.balances.now < 16 → moment ≤ last → Stepped (P.Policy.admits policy.now) J moment order.now.number (content_of moment order.now.action) result chain.new.balances.now }
 {
     let number = order.number;

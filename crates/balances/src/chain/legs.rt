@@ -9,7 +9,8 @@ ghost use Rattle.meaning.specs.declared.fate.Event.TheVariants.{Post, Void};
 ghost use Rattle.balances.specs.Books.{books_of, held_place, row_asked};
 ghost use Rattle.balances.specs.Judged.{refusal_in, full_judged, reserve_judged, movement_judged, post_judged, void_judged, sum};
 ghost use Rattle.balances.specs.Legs.{transferred, reserved, closed};
-ghost use Rattle.balances.specs.Undone.{noted_of, legs_of, rolled_back};
+ghost use Rattle.balances.specs.Chains.{GoesOn};
+ghost use Rattle.balances.specs.Undone.{noted_of};
 
 use super::Chain;
 use crate::outlook::Outlook;
@@ -68,11 +69,9 @@ impl Chain<'_> {
         credit: u32,
         amount: u64,
     ) -> Result<(), Refusal>
-        ensures same { self.new.balances.ghost_name ≡ self.old.balances.ghost_name }
+        ensures goes_on { GoesOn self.old (is_ok result) self.new }
         ensures answer { refusal_in result ≡ full_judged (noted_of self.old.balances.now) }
         ensures books { books_of self.new.balances.now ≡ (if is_ok result then transferred number debit credit amount (books_of self.old.balances.now) else books_of self.old.balances.now) }
-        ensures back { rolled_back self.new.balances.now ≡ rolled_back self.old.balances.now }
-        ensures legs { legs_of self.new.balances.now ≡ (if is_ok result then legs_of self.old.balances.now + 1 else legs_of self.old.balances.now) }
     {
         self.balances.notes.check_legs()?;
         self.balances.transfer(number, debit, credit, amount);
@@ -81,11 +80,9 @@ impl Chain<'_> {
 
     // Takes a reserve, where there is room for one reservation more.
     pub fn reserve(&mut self, held: Reservation) -> Result<(), Refusal>
-        ensures same { self.new.balances.ghost_name ≡ self.old.balances.ghost_name }
+        ensures goes_on { GoesOn self.old (is_ok result) self.new }
         ensures answer { refusal_in result ≡ reserve_judged (noted_of self.old.balances.now) (books_of self.old.balances.now) }
         ensures books { books_of self.new.balances.now ≡ (if is_ok result then reserved held (books_of self.old.balances.now) else books_of self.old.balances.now) }
-        ensures back { rolled_back self.new.balances.now ≡ rolled_back self.old.balances.now }
-        ensures legs { legs_of self.new.balances.now ≡ (if is_ok result then legs_of self.old.balances.now + 1 else legs_of self.old.balances.now) }
     {
         self.balances.notes.check_legs()?;
         self.balances.tables.check_room()?;
@@ -95,11 +92,9 @@ impl Chain<'_> {
 
     // Takes a post of a part of a live reservation.
     pub fn post(&mut self, number: u32, reservation: u32, amount: u64) -> Result<(), Refusal>
-        ensures same { self.new.balances.ghost_name ≡ self.old.balances.ghost_name }
+        ensures goes_on { GoesOn self.old (is_ok result) self.new }
         ensures answer { refusal_in result ≡ or_else (post_judged number reservation amount (books_of self.old.balances.now)) (full_judged (noted_of self.old.balances.now)) }
         ensures books { books_of self.new.balances.now ≡ (if is_ok result then closed Post number (held_place (books_of self.old.balances.now) reservation) amount (books_of self.old.balances.now) else books_of self.old.balances.now) }
-        ensures back { rolled_back self.new.balances.now ≡ rolled_back self.old.balances.now }
-        ensures legs { legs_of self.new.balances.now ≡ (if is_ok result then legs_of self.old.balances.now + 1 else legs_of self.old.balances.now) }
     {
         self.balances
             .tables
@@ -112,11 +107,9 @@ impl Chain<'_> {
 
     // Takes a void of a live reservation.
     pub fn void(&mut self, number: u32, reservation: u32) -> Result<(), Refusal>
-        ensures same { self.new.balances.ghost_name ≡ self.old.balances.ghost_name }
+        ensures goes_on { GoesOn self.old (is_ok result) self.new }
         ensures answer { refusal_in result ≡ or_else (void_judged number reservation (books_of self.old.balances.now)) (full_judged (noted_of self.old.balances.now)) }
         ensures books { books_of self.new.balances.now ≡ (if is_ok result then closed Void number (held_place (books_of self.old.balances.now) reservation) 0 (books_of self.old.balances.now) else books_of self.old.balances.now) }
-        ensures back { rolled_back self.new.balances.now ≡ rolled_back self.old.balances.now }
-        ensures legs { legs_of self.new.balances.now ≡ (if is_ok result then legs_of self.old.balances.now + 1 else legs_of self.old.balances.now) }
     {
         self.balances.tables.check_void(number, reservation)?;
         self.balances.notes.check_legs()?;

@@ -14,9 +14,7 @@ returns-in-Reserve g c =
     let T = c.args.moment in
     let a = c.in-Reserve in
     record {
-      same = e.same;
-      back = e.back;
-      legs = e.legs;
+      goes_on = e.goes_on;
       leg = λ J shown lt le.
           let until = c.deadline.ensures.until le in
           subst (λ (k : Content). Stepped (g.P.Policy.admits c.args.policy.now) J T o.number k c.take_reserve.result c.take_reserve.new.chain.balances.now)
@@ -29,9 +27,7 @@ returns-in-Post g c =
     let e = c.take_post.ensures in
     let policy = g.P.Policy.admits c.args.policy.now in
     record {
-      same = e.same;
-      back = e.back;
-      legs = e.legs;
+      goes_on = e.goes_on;
       leg = λ J shown lt le.
           subst (λ (k : Content). Stepped policy J c.args.moment c.args.order.now.number k c.take_post.result c.take_post.new.chain.balances.now)
           (sym (ap (content_of c.args.moment) c.in-Post.is)) (e.leg policy J c.args.moment shown lt);
@@ -42,9 +38,7 @@ returns-in-Void g c =
     let e = c.take_void.ensures in
     let policy = g.P.Policy.admits c.args.policy.now in
     record {
-      same = e.same;
-      back = e.back;
-      legs = e.legs;
+      goes_on = e.goes_on;
       leg = λ J shown lt le.
           subst (λ (k : Content). Stepped policy J c.args.moment c.args.order.now.number k c.take_void.result c.take_void.new.chain.balances.now)
           (sym (ap (content_of c.args.moment) c.in-Void.is)) (e.leg policy J c.args.moment shown lt);

@@ -17,9 +17,7 @@ returns c =
     let t = c.post.ensures in
     let b = a.chain.now.balances.now in
     record {
-      same = t.same;
-      back = t.back;
-      legs = t.legs;
+      goes_on = t.goes_on;
       leg = λ policy J T shown lt.
           let judged = post_judged a.number a.reservation a.amount (books_of b) in
           stepped policy J T a.number (Post a.reservation a.amount) c.post.result (books_of b) (λ (k : Books). closed event a.number (held_place k a.reservation) a.amount k) c.post.new.self.balances.now

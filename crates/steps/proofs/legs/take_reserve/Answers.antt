@@ -23,9 +23,7 @@ returns-in_err-check_movement g c =
     let b = c.args.chain.now.balances.now in
     let policy = g.P.Policy.admits c.args.policy.now in
     record {
-      same = refl;
-      back = refl;
-      legs = sym (ap (λ (y : Result (Unit {0}) Refusal). cond (is_ok y) (legs_of b + 1) (legs_of b)) p.1);
+      goes_on = record { same = refl; back = refl; legs = sym (ap (λ (y : Result (Unit {0}) Refusal). cond (is_ok y) (legs_of b + 1) (legs_of b)) p.1) };
       leg = λ J T shown lt live later.
           let why = ap Some p.2 ∙ c.in_err-check_movement.ensures.answer J T shown (omega arith) in
           stopped policy J T R.number (Reserve R.debit R.credit R.amount R.deadline) c.from_residual.result p.0 b p.1
@@ -39,9 +37,7 @@ returns g c =
     let b = c.args.chain.now.balances.now in
     let policy = g.P.Policy.admits c.args.policy.now in
     record {
-      same = t.same;
-      back = t.back;
-      legs = t.legs;
+      goes_on = t.goes_on;
       leg = λ J T shown lt live later.
           let passed = c.in_ok-check_movement.ensures.answer J T shown (omega arith) in
           let room = ap (λ x. or_else x (room_judged (books_of b))) (room_for_leg b lt) ∙ room_judged_lem policy J T shown.reads (books_of b) shown.tables in

@@ -16,9 +16,7 @@ returns-in_err-check_movement g c =
     let a = c.args in
     let b = a.chain.now.balances.now in
     record {
-      same = refl;
-      back = refl;
-      legs = sym (ap (λ (y : Result (Unit {0}) Refusal). cond (is_ok y) (legs_of b + 1) (legs_of b)) p.1);
+      goes_on = record { same = refl; back = refl; legs = sym (ap (λ (y : Result (Unit {0}) Refusal). cond (is_ok y) (legs_of b + 1) (legs_of b)) p.1) };
       leg = λ J T shown lt. stopped (g.P.Policy.admits a.policy.now) J T a.number (Transfer a.debit a.credit a.amount) c.from_residual.result p.0 b p.1 (sym (ap Some p.2 ∙ (c.in_err-check_movement.ensures.answer J T shown (omega arith) ∙ transfer_refused (g.P.Policy.admits a.policy.now) J T a.number a.debit a.credit a.amount))) shown.tables;
     }
 
@@ -29,9 +27,7 @@ returns g c =
     let b = a.chain.now.balances.now in
     let policy = g.P.Policy.admits a.policy.now in
     record {
-      same = t.same;
-      back = t.back;
-      legs = t.legs;
+      goes_on = t.goes_on;
       leg = λ J T shown lt.
           let passed = c.in_ok-check_movement.ensures.answer J T shown (omega arith) in
           stepped policy J T a.number (Transfer a.debit a.credit a.amount) c.transfer.result (books_of b) (transferred a.number a.debit a.credit a.amount) c.transfer.new.self.balances.now
