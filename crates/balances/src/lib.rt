@@ -10,4 +10,4 @@ mod plain;
 
 pub use balances::Balances;
 pub use chain::{Chain, Receipt};
-pub use outlook::Outlook;
+pub use outlook::{Movement, Outlook};

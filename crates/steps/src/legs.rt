@@ -12,7 +12,7 @@ ghost use Rattle.balances.specs.Undone.{legs_of};
 ghost use Rattle.steps.specs.Legs.{asked_of, movement_refused, Narrow};
 ghost use Rattle.steps.specs.Shown.{Shown, Stepped};
 
-use balances::Chain;
+use balances::{Chain, Movement};
 use meaning::{Account, Action, Fate, Order, Refusal, Reservation};
 use policy::Policy;
 
@@ -29,20 +29,16 @@ fn ask<P: Policy>(policy: &P, debit: &Account, credit: &Account) -> Result<(), R
     Ok(())
 }
 
-// The rules of so much more, pending and posted, between two accounts; the policy is asked last.
+// The rules of a movement between two accounts; the policy is asked last.
 fn check_movement<P: Policy>(
     chain: &Chain<'_>,
     policy: &P,
-    number: u32,
-    debit: u32,
-    credit: u32,
-    pending: u64,
-    posted: u64,
+    movement: Movement,
 ) -> Result<(), Refusal>
-    ensures narrow { Narrow number debit credit }
-    ensures answer { (J : Journal) (T : ℕ) → Shown (P.Policy.admits policy.now) J T chain.now.balances.now → pending + posted < 2 ^ 64 → refusal_in result ≡ movement_refused (P.Policy.admits policy.now) J T number debit credit pending posted }
+    ensures narrow { Narrow movement.number movement.debit movement.credit }
+    ensures answer { (J : Journal) (T : ℕ) → Shown (P.Policy.admits policy.now) J T chain.now.balances.now → movement.pending + movement.posted < 2 ^ 64 → refusal_in result ≡ movement_refused (P.Policy.admits policy.now) J T movement.number movement.debit movement.credit movement.pending movement.posted }
 {
-    let outlook = chain.outlook(number, debit, credit, pending, posted)?;
+    let outlook = chain.outlook(&movement)?;
     ask(policy, &outlook.debit, &outlook.credit)
 }
 
@@ -69,7 +65,14 @@ fn take_transfer<P: Policy>(
     ensures goes_on { GoesOn chain.old (is_ok result) chain.new }
     ensures leg { (J : Journal) (T : ℕ) → Shown (P.Policy.admits policy.now) J T chain.old.balances.now → legs_of chain.old.balances.now < 16 → Stepped (P.Policy.admits policy.now) J T number (Transfer debit credit amount) result chain.new.balances.now }
 {
-    check_movement(chain, policy, number, debit, credit, 0, amount)?;
+    let movement = Movement {
+        number,
+        debit,
+        credit,
+        pending: 0,
+        posted: amount,
+    };
+    check_movement(chain, policy, movement)?;
     chain.transfer(number, debit, credit, amount)
 }
 
@@ -81,15 +84,14 @@ fn take_reserve<P: Policy>(
     ensures goes_on { GoesOn chain.old (is_ok result) chain.new }
     ensures leg { (J : Journal) (T : ℕ) → Shown (P.Policy.admits policy.now) J T chain.old.balances.now → legs_of chain.old.balances.now < 16 → held.fate ≡ Live → is_until T held.deadline ≡ true → Stepped (P.Policy.admits policy.now) J T held.number (Reserve held.debit held.credit held.amount held.deadline) result chain.new.balances.now }
 {
-    check_movement(
-        chain,
-        policy,
-        held.number,
-        held.debit,
-        held.credit,
-        held.amount,
-        0,
-    )?;
+    let movement = Movement {
+        number: held.number,
+        debit: held.debit,
+        credit: held.credit,
+        pending: held.amount,
+        posted: 0,
+    };
+    check_movement(chain, policy, movement)?;
     chain.reserve(held)
 }
 

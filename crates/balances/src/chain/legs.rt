@@ -13,51 +13,38 @@ ghost use Rattle.balances.specs.Chains.{GoesOn};
 ghost use Rattle.balances.specs.Undone.{noted_of};
 
 use super::Chain;
-use crate::outlook::Outlook;
+use crate::outlook::{Movement, Outlook};
 use crate::plain::judging::{check_amount, check_pair};
 use meaning::{Event, Refusal, Reservation};
 
 impl Chain<'_> {
-    // The two accounts of a transfer or a reserve as they stand, or the first rule of the tables that it breaks.
-    fn parties(&self, number: u32, debit: u32, credit: u32, amount: u64) -> Result<Outlook, Refusal>
-        ensures answer { refusal_in result ≡ movement_judged number debit credit amount (books_of self.now.balances.now) }
-        ensures shown { IfOk result (λ o. Shows o (row_asked (books_of self.now.balances.now) debit) (row_asked (books_of self.now.balances.now) credit)) }
+    // The two accounts of a movement as they stand, or the first rule of the tables that it breaks.
+    fn parties(&self, movement: &Movement) -> Result<Outlook, Refusal>
+        ensures answer { refusal_in result ≡ movement_judged movement.now.number movement.now.debit movement.now.credit (sum movement.now.pending movement.now.posted) (books_of self.now.balances.now) }
+        ensures shown { IfOk result (λ o. Shows o (row_asked (books_of self.now.balances.now) movement.now.debit) (row_asked (books_of self.now.balances.now) movement.now.credit)) }
     {
-        self.balances.tables.check_number(number)?;
+        let amount = movement.pending.saturating_add(movement.posted);
+        let tables = &self.balances.tables;
+        tables.check_number(movement.number)?;
         check_amount(amount)?;
-        let from = self
-            .balances
-            .tables
-            .account(debit)
-            .ok_or(Refusal::DebitUnknown)?;
-        let to = self
-            .balances
-            .tables
-            .account(credit)
-            .ok_or(Refusal::CreditUnknown)?;
-        check_pair(&from, &to, amount)?;
-        Ok(Outlook {
-            debit: from,
-            credit: to,
-        })
+        let Some(debit) = tables.account(movement.debit) else {
+            return Err(Refusal::DebitUnknown);
+        };
+        let Some(credit) = tables.account(movement.credit) else {
+            return Err(Refusal::CreditUnknown);
+        };
+        check_pair(&debit, &credit, amount)?;
+        Ok(Outlook { debit, credit })
     }
 
-    // What the two accounts would show after so much more pending and posted, or the first rule of the tables that
-    // stands against it.
-    pub fn outlook(
-        &self,
-        number: u32,
-        debit: u32,
-        credit: u32,
-        pending: u64,
-        posted: u64,
-    ) -> Result<Outlook, Refusal>
-        ensures answer { refusal_in result ≡ movement_judged number debit credit (sum pending posted) (books_of self.now.balances.now) }
-        ensures shown { IfOk result (λ o. Shows o (option_map (debited pending posted) (row_asked (books_of self.now.balances.now) debit)) (option_map (credited pending posted) (row_asked (books_of self.now.balances.now) credit))) }
+    // What the two accounts would show after a movement, or the first rule of the tables that stands against it.
+    pub fn outlook(&self, movement: &Movement) -> Result<Outlook, Refusal>
+        ensures answer { refusal_in result ≡ movement_judged movement.now.number movement.now.debit movement.now.credit (sum movement.now.pending movement.now.posted) (books_of self.now.balances.now) }
+        ensures shown { IfOk result (λ o. Shows o (option_map (debited movement.now.pending movement.now.posted) (row_asked (books_of self.now.balances.now) movement.now.debit)) (option_map (credited movement.now.pending movement.now.posted) (row_asked (books_of self.now.balances.now) movement.now.credit))) }
     {
-        let mut outlook = self.parties(number, debit, credit, pending.saturating_add(posted))?;
-        outlook.debit.debit(pending, posted);
-        outlook.credit.credit(pending, posted);
+        let mut outlook = self.parties(movement)?;
+        outlook.debit.debit(movement.pending, movement.posted);
+        outlook.credit.credit(movement.pending, movement.posted);
         Ok(outlook)
     }
 

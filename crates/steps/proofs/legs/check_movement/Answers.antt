@@ -15,11 +15,12 @@ returns-in_err-outlook g c = record {
       let p = err_from_is_err_and c.from_residual.result c.from_residual.ensures.1 in
       let h = c.in_err-outlook.ensures.answer in
       let a = c.args in
+      let m = a.movement in
       let k = books_of a.chain.now.balances.now in
       let policy = g.P.Policy.admits a.policy.now in
       ap refusal_in p.1 ∙ (ap Some p.2
-      ∙ (ap (λ r. or_else r (asked_if policy (option_map (debited a.pending a.posted) (row_asked k a.debit)) (option_map (credited a.pending a.posted) (row_asked k a.credit)))) h
-      ∙ movement_judged_lem policy J T shown.reads k shown.tables a.number a.debit a.credit a.pending a.posted (sum a.pending a.posted) (omega arith)));
+      ∙ (ap (λ r. or_else r (asked_if policy (option_map (debited m.pending m.posted) (row_asked k m.debit)) (option_map (credited m.pending m.posted) (row_asked k m.credit)))) h
+      ∙ movement_judged_lem policy J T shown.reads k shown.tables m.number m.debit m.credit m.pending m.posted (sum m.pending m.posted) (omega arith)));
 }
 
 pub returns : goal.returns
@@ -28,12 +29,13 @@ returns g c = record {
   answer = λ J T shown fits.
       let h = c.in_ok-outlook.ensures in
       let a = c.args in
+      let m = a.movement in
       let k = books_of a.chain.now.balances.now in
       let policy = g.P.Policy.admits a.policy.now in
       let o = c.in_ok-outlook.outlook in
       c.ask.ensures
       ∙ (ap (λ C. asked_if policy (Some (standing_of o.debit)) C) (sym h.shown.credit)
-      ∙ (ap (λ D. asked_if policy D (option_map (credited a.pending a.posted) (row_asked k a.credit))) (sym h.shown.debit)
-      ∙ (ap (λ r. or_else r (asked_if policy (option_map (debited a.pending a.posted) (row_asked k a.debit)) (option_map (credited a.pending a.posted) (row_asked k a.credit)))) h.answer
-      ∙ movement_judged_lem policy J T shown.reads k shown.tables a.number a.debit a.credit a.pending a.posted (sum a.pending a.posted) (omega arith))));
+      ∙ (ap (λ D. asked_if policy D (option_map (credited m.pending m.posted) (row_asked k m.credit))) (sym h.shown.debit)
+      ∙ (ap (λ r. or_else r (asked_if policy (option_map (debited m.pending m.posted) (row_asked k m.debit)) (option_map (credited m.pending m.posted) (row_asked k m.credit)))) h.answer
+      ∙ movement_judged_lem policy J T shown.reads k shown.tables m.number m.debit m.credit m.pending m.posted (sum m.pending m.posted) (omega arith))));
 }
