@@ -15,6 +15,7 @@ use ordered::Line;
 
 impl Page<'_> {
     // `7 MILL 2 0 250 0 900`
+    #[tactic(auto, unfolding(crate::specs::Lines::account_bytes))]
     fn account(&mut self, account: &Account)
         ensures { self.new ≡ written (account_bytes (standing_of account.now)) self.old }
     {
@@ -34,6 +35,7 @@ impl Page<'_> {
     }
 
     // `7 = 3 0 1150 0 1150`
+    #[tactic(auto, unfolding(crate::specs::Lines::sum_bytes, crate::specs::Letters::letters_in))]
     fn sums(&mut self, ledger: u16, sums: &Sums)
         ensures { self.new ≡ written (sum_bytes ledger sums.now) self.old }
     {
