@@ -1,6 +1,6 @@
 -- What the tables of a book say.
 use Rattle.balances.specs.declared.balances.Balances.{Balances}
-pub use Rattle.balances.specs.Contents.{Books, empty, no_row, no_reservation, row_place, held_place, row_asked, held_asked, with_row, line_of, opened_with}
+pub use Rattle.balances.specs.Contents.{Books, Small, empty, no_row, no_reservation, row_place, held_place, row_asked, held_asked, with_row, line_of, opened_with}
 
 abbrev pub books_of : Balances → Books
 books_of b = b.tables

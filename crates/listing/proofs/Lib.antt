@@ -1,7 +1,7 @@
 pub mod Writing
 pub mod Row
 pub mod Room
-pub mod Small
+pub mod Totals
 pub mod Summing
 pub mod Listed
 pub mod Reported

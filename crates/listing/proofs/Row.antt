@@ -1,19 +1,13 @@
 -- The keys of the report row, and the lines that one of them adds.
-use Rattle.std.proofs.Common.{◌≡◌, ◌≤◌, true, false, List, ◌∷◌, ◌++◌, length, sym, ap, ◌∙◌, arith}
+use Rattle.std.proofs.Common.{◌≡◌, true, false, List, ◌∷◌, ◌++◌, sym, ap, ◌∙◌}
 use Rattle.std.proofs.lemmas.Bool.{cond-true, cond-false}
-use Rattle.std.proofs.lemmas.List.{length-take}
 use Rattle.ordered.specs.declared.line.Line.{Line}
-use Rattle.balances.specs.declared.balances.Balances.{Balances}
-use Rattle.balances.specs.Books.{Books, books_of}
+use Rattle.balances.specs.Books.{Books}
 use Rattle.listing.specs.declared.page.Page.{Page}
 use Rattle.listing.specs.Pages.{written}
 use Rattle.listing.specs.Sums.{sums_of}
 use Rattle.listing.specs.Lines.{sum_bytes, key_bytes, ends_in, end_bytes, keys_bytes}
 use Rattle.listing.proofs.Writing.{written-++}
-
--- a report row has at most 64 keys
-pub few_keys : (b : Balances) → length (books_of b).lines ≤ 64
-few_keys b = let f = b.report.fits in simp length-take (omega arith)
 
 -- the key l is the first of ls, and its account's line leads from p to q
 module _ (k : Books) (ls rest : List Line) (l : Line) (is : ls ≡ l ∷ rest) (p q : Page) (line : q ≡ written (key_bytes k l) p) where

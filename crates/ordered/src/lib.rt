@@ -120,21 +120,17 @@ pub fn take_out<K: Key>(row: &mut [K], len: usize, key: K) -> usize
 }
 
 // What rows in order keep, whatever the key: five laws.
-pub fn rows_stand<K: Key>() -> u8
+pub fn rows_stand<K: Key>()
     ensures order { StaysInOrder K.before }
     ensures entry { AnyOrderIn K.before }
     ensures taken { TakenOut K.before }
     ensures tests { TestsPassThrough K.before }
     ensures fronts { FrontsPass K.before }
-{
-    5
-}
+{}
 
 // What the two keys keep: each order is lawful, and both are those of the book's meaning.
-pub fn keys_stand() -> u8
+pub fn keys_stand()
     ensures due { Lawful due_before }
     ensures line { Lawful line_before }
     ensures meant { KeysAgree }
-{
-    3
-}
+{}

@@ -1,8 +1,9 @@
 // Where accounts and reservations stand, and what they show.
-ghost use Rattle.std.specs.Prelude.{◌≡◌, length, slice_index_or};
+ghost use Rattle.std.specs.List.{AllByRecursion};
+ghost use Rattle.std.specs.Prelude.{◌≡◌, ◌≤◌, length, slice_index_or};
 ghost use Rattle.std.specs.Option.{option_map};
 ghost use Rattle.meaning.specs.Rows.{standing_of};
-ghost use Rattle.balances.specs.Contents.{no_row, no_reservation, row_place, held_place, row_asked, held_asked};
+ghost use Rattle.balances.specs.Contents.{Small, no_row, no_reservation, row_place, held_place, row_asked, held_asked};
 ghost use Rattle.balances.specs.Queues.{line_at};
 
 use super::Tables;
@@ -71,8 +72,19 @@ impl Tables {
 
     // The key at a place of the listing.
     pub(crate) fn line_at(&self, place: usize) -> Option<Line>
-        ensures { result ≡ line_at place self.now.lines }
+        ensures key { result ≡ line_at place self.now.lines }
+        ensures few { length self.now.lines ≤ 64 }
     {
+        let _few = self.lines.len();
         self.lines.get(place)
+    }
+
+    // What every value keeps beside what it says, for proofs: few lines, and no side of an account above the top.
+    pub(crate) fn bounds(&self)
+        ensures lines { length self.now.lines ≤ 64 }
+        ensures sides { AllByRecursion Small self.now.rows }
+    {
+        let _few = self.lines.len();
+        let _rows = &self.accounts;
     }
 }
