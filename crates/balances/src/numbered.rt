@@ -27,7 +27,8 @@ impl Numbered for Reservation {
     }
 }
 
-// The first place of a number among the items, or how many they are.
+// The first place of a number among the items, or how many they are: there a row has no item to give, so callers need
+// no second case.
 pub(crate) fn place_of<T: Numbered>(items: &[T], number: u32) -> usize
     ensures { result ≡ prefix_len (λ x. not (T.Numbered.number x == number)) items.now }
 {

@@ -20,6 +20,7 @@ pub fn advance(balances: &mut Balances, moment: u64)
     ensures { (policy : Policy) (J : Journal) (T : ℕ) → Reads policy J → books_of balances.old ≡ image_of J T → T ≤ moment → books_of balances.new ≡ image_of J moment }
 {
     let due = balances.count_due(moment);
+    // So many turns: `lapse_next` takes the next key itself, so nothing is counted by hand.
     for _turn in 0..due {
         let _ = balances.lapse_next(moment);
     }

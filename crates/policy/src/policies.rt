@@ -41,7 +41,7 @@ impl Policy for Floor {
     }
 }
 
-// No more may come in than has been drawn, and the limit.
+// No more may come in than has been drawn, and the limit. It mirrors `Floor`; what they share is `covers`.
 #[derive(Clone, Copy)]
 pub struct Ceiling;
 

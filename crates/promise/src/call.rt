@@ -4,7 +4,7 @@ ghost use Rattle.promise.specs.Spans.{inside};
 
 use meaning::Opening;
 
-// The places of a list from one to before another.
+// The places of a list from one to before another. A call is a plain value, and std's `Range` can't be copied.
 #[derive(Clone, Copy)]
 pub struct Span {
     pub from: usize,
@@ -20,7 +20,8 @@ impl Span {
     }
 }
 
-// What is asked of a book. Lists and buffers are spans of those on the desk.
+// What is asked of a book, as a value: the same calls are made on two books, and contracts speak of lists of them.
+// Lists and buffers are spans of those on the desk.
 #[derive(Clone, Copy)]
 pub enum Ask {
     Open(Opening),

@@ -20,6 +20,7 @@ fn refuse_unfinished(answers: &mut [Answer])
 }
 
 // Runs the orders chain by chain, writes each answer at its order's place, and counts the orders taken.
+// A book lends its parts one by one: a struct of these loans would name each of them in every clause again.
 pub fn run_batch<J: Journal, P: Policy>(
     balances: &mut Balances,
     policy: &P,
@@ -35,6 +36,7 @@ pub fn run_batch<J: Journal, P: Policy>(
     }
     let mut taken = 0;
     let mut start = 0;
+    // Answers stand at their orders' places, so the loop goes with the index.
     for (i, order) in orders.iter().enumerate() {
         if !order.linked {
             taken += run_chain(

@@ -42,7 +42,7 @@ fn check_movement<P: Policy>(
     ask(policy, &outlook.debit, &outlook.credit)
 }
 
-// The deadline of a reserve: none, said by 0, where the duration is 0.
+// The deadline of a reserve: none, said by 0 as in a record, where the duration is 0.
 pub(crate) fn deadline(moment: u64, duration: u32) -> u64
     ensures until { moment ≤ last → result ≡ deadline_of moment duration }
     ensures narrow { duration < 2 ^ 32 }

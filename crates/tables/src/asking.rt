@@ -1,4 +1,4 @@
-// One call on a book, with a list or a buffer of its own.
+// One call on a book, with a list or a buffer of its own. The tables of cases hold the numbers that users read.
 use book::Book;
 use journal::Journal;
 use meaning::{Action, Answer, Moved, Order, Refusal};

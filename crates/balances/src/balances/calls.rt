@@ -83,7 +83,7 @@ impl Balances {
         self.tables.count_due(moment)
     }
 
-    // The earliest live deadline, or 0.
+    // The earliest live deadline, or 0, as a move answers it.
     pub fn next_deadline(&self) -> u64
         ensures { result ≡ deadline_in (first (books_of self.now).queue) }
     {

@@ -39,7 +39,7 @@ impl Tables {
         due_front(self.queue.as_slice(), moment)
     }
 
-    // The earliest live deadline, or 0.
+    // The earliest live deadline, or 0, as a move answers it.
     pub(crate) fn next_deadline(&self) -> u64
         ensures { result ≡ deadline_in (first self.now.queue) }
     {

@@ -47,6 +47,7 @@ fn fill(text: &[u8]) -> [u8; 8]
 }
 
 impl Label {
+    // Of a number that is no label there is no more to say, so this is no `TryFrom`.
     pub fn new(code: u64) -> Option<Label>
         ensures { result ≡ label_of code }
     {
