@@ -12,6 +12,7 @@ use journal::Journal;
 use meaning::{Opening, Order};
 use policy::Policy;
 
+// One function for each call that takes a list or an opening: what they share is `put`.
 fn ask_open<J: Journal, P: Policy>(
     book: &mut Book<J, P>,
     at: usize,

@@ -102,6 +102,7 @@ fn order(number: u32, action: Action) -> Order {
     }
 }
 
+// The program has makers of its own; in `meaning` they would be public calls for printing alone.
 fn transfer(debit: u32, credit: u32, amount: u64) -> Action {
     Action::Transfer {
         debit,

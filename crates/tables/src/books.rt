@@ -41,6 +41,7 @@ pub fn open_many<J: Journal, P: Policy>(book: &mut Book<J, P>, many: u32) -> Ans
     Ok(())
 }
 
+// Tests have makers of their own; in `meaning` they would be public calls for tests alone.
 pub fn transfer(debit: u32, credit: u32, amount: u64) -> Action {
     Action::Transfer {
         debit,

@@ -30,7 +30,8 @@ impl Tables {
             .change(to, |account| account.credit(pending, posted));
     }
 
-    // An amount leaves what is pending between two accounts, and a part of it is posted.
+    // An amount leaves what is pending between two accounts, and a part of it is posted. One function with two closures
+    // would say no less than this one and `move_between`.
     fn release_between(&mut self, debit: u32, credit: u32, amount: u64, part: u64)
         ensures { self.new ≡ released debit credit amount part self.old }
     {

@@ -13,6 +13,7 @@ use meaning::{Account, Reservation};
 use ordered::Line;
 
 // A place is no `Option`: a row takes any place, and a chain notes the place past the end for none.
+// Accounts and reservations keep look-ups by name: each is one line over `place_of` or a row's `get`.
 impl Tables {
     // The place of an account, or how many there are.
     pub(super) fn account_place(&self, number: u32) -> usize
@@ -28,7 +29,7 @@ impl Tables {
         place_of(self.reservations.as_slice(), number)
     }
 
-    // The account at a place, or one that stands for none.
+    // The account at a place, or one that stands for none: what is noted of a leg is plain values.
     pub(super) fn account_at(&self, place: usize) -> Account
         ensures { standing_of result ≡ slice_index_or self.now.rows place no_row }
     {
