@@ -1,6 +1,6 @@
 -- What the tables say: the accounts and reservations in the order in which they came, the highest number, the
 -- queue of deadlines and the report row.
-use Rattle.std.specs.Prelude.{ℕ, cond, List, [], ◌∷◌, ◌++◌, map, length, Some, None, Option, nat_lt, slice_index_or, slice_set}
+use Rattle.std.specs.Prelude.{ℕ, ◌≤◌, cond, List, [], ◌∷◌, ◌++◌, map, length, Some, None, Option, nat_lt, slice_index_or, slice_set}
 use Rattle.meaning.specs.declared.reservation.Reservation.{Reservation}
 use Rattle.meaning.specs.declared.fate.Fate.TheVariants.{Live}
 use Rattle.meaning.specs.Questions.{Standing}
@@ -15,6 +15,10 @@ pub record Books : Type 0 where
   pub highest : ℕ
   pub queue : List Due
   pub lines : List Line
+
+-- no more accounts, and no more lines of the listing, than there is room for
+abbrev pub Few : Books → Type 0
+Few k = (length k.rows ≤ 64) × (length k.lines ≤ 64)
 
 abbrev pub empty : Books
 empty = record { rows = []; held = []; highest = 0; queue = []; lines = [] }

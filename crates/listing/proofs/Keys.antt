@@ -1,6 +1,6 @@
 -- The keys of the report row from a place on, in sums and in the listing.
 use Rattle.std.proofs.Common.{◌≡◌, ℕ, ◌+◌, ◌<◌, ◌≤◌, Bool, true, false, cond, ltb, List, [], ◌∷◌, ◌++◌, length, get_or, drop, Some, None, sym, refl, ap, ◌∙◌, arith, ltb-false, ltb-true}
-use Rattle.std.proofs.lemmas.List.{drop_more, drop_all, length-take}
+use Rattle.std.proofs.lemmas.List.{drop_more, drop_all}
 use Rattle.ordered.specs.declared.line.Line.{Line}
 use Rattle.balances.specs.declared.balances.Balances.{Balances}
 use Rattle.balances.specs.Books.{Books, books_of}
@@ -34,7 +34,7 @@ none_here i ls e = go (ltb i (length ls)) refl e
 
 -- a report row has at most 64 keys
 pub few_keys : (b : Balances) → length (books_of b).lines ≤ 64
-few_keys b = let f = b.report.fits in simp length-take (omega arith)
+few_keys b = b.few.1
 
 -- one key more of a ledger's sums, and of the listing
 module _ (k : Books) (ls : List Line) (i : ℕ) (l : Line) (h : Here i ls l) where

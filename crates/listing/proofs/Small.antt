@@ -1,5 +1,5 @@
 -- The totals of a journal's accounts are small, where tables hold them.
-use Rattle.std.proofs.Common.{◌≡◌, ℕ, ◌^◌, ◌<◌, List, [], ◌∷◌, ◌++◌, map, take, subst, arith}
+use Rattle.std.proofs.Common.{◌≡◌, ℕ, ◌^◌, ◌<◌, List, [], ◌∷◌, ◌++◌, map, subst, arith}
 use Rattle.std.specs.List.{AllByRecursion as All}
 use Rattle.meaning.specs.declared.account.Account.{Account}
 use Rattle.meaning.specs.Given.{Journal, accounts}
@@ -33,5 +33,5 @@ module _ {X : Type 0} (P : X → Type 0) where
 
 pub small : (b : Balances) (J : Journal) (T : ℕ) → books_of b ≡ image_of J T → All (λ A. Small (standing J T A)) (accounts J)
 small b J T e =
-    let h : All Small (oldest (standing J T) (accounts J)) = subst (λ (k : Books). All Small k.rows) e (all_small (take b.opened b.accounts)) in
+    let h : All Small (oldest (standing J T) (accounts J)) = subst (λ (k : Books). All Small k.rows) e (all_small b.tables.accounts) in
     all_of_oldest Small (standing J T) (accounts J) h

@@ -74,8 +74,9 @@ impl Chain<'_> {
         ensures back { rolled_back self.new.balances.now ≡ rolled_back self.old.balances.now }
         ensures legs { legs_of self.new.balances.now ≡ (if is_ok result then legs_of self.old.balances.now + 1 else legs_of self.old.balances.now) }
     {
-        self.balances.notes.check_legs()?;
-        self.balances.transfer(number, debit, credit, amount);
+        let balances = &mut *self.balances;
+        balances.notes.check_legs()?;
+        balances.transfer(number, debit, credit, amount);
         Ok(())
     }
 
@@ -87,9 +88,10 @@ impl Chain<'_> {
         ensures back { rolled_back self.new.balances.now ≡ rolled_back self.old.balances.now }
         ensures legs { legs_of self.new.balances.now ≡ (if is_ok result then legs_of self.old.balances.now + 1 else legs_of self.old.balances.now) }
     {
-        self.balances.notes.check_legs()?;
-        self.balances.tables.check_room()?;
-        self.balances.reserve(held);
+        let balances = &mut *self.balances;
+        balances.notes.check_legs()?;
+        balances.tables.check_room()?;
+        balances.reserve(held);
         Ok(())
     }
 
@@ -101,12 +103,10 @@ impl Chain<'_> {
         ensures back { rolled_back self.new.balances.now ≡ rolled_back self.old.balances.now }
         ensures legs { legs_of self.new.balances.now ≡ (if is_ok result then legs_of self.old.balances.now + 1 else legs_of self.old.balances.now) }
     {
-        self.balances
-            .tables
-            .check_post(number, reservation, amount)?;
-        self.balances.notes.check_legs()?;
-        self.balances
-            .close(number, reservation, Event::Post, amount);
+        let balances = &mut *self.balances;
+        balances.tables.check_post(number, reservation, amount)?;
+        balances.notes.check_legs()?;
+        balances.close(number, reservation, Event::Post, amount);
         Ok(())
     }
 
@@ -118,9 +118,10 @@ impl Chain<'_> {
         ensures back { rolled_back self.new.balances.now ≡ rolled_back self.old.balances.now }
         ensures legs { legs_of self.new.balances.now ≡ (if is_ok result then legs_of self.old.balances.now + 1 else legs_of self.old.balances.now) }
     {
-        self.balances.tables.check_void(number, reservation)?;
-        self.balances.notes.check_legs()?;
-        self.balances.close(number, reservation, Event::Void, 0);
+        let balances = &mut *self.balances;
+        balances.tables.check_void(number, reservation)?;
+        balances.notes.check_legs()?;
+        balances.close(number, reservation, Event::Void, 0);
         Ok(())
     }
 }
