@@ -1,4 +1,4 @@
 pub mod Placing
 pub mod Tables
 pub mod Undoing
-pub mod Smallness
+pub mod Room

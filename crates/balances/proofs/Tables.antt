@@ -37,8 +37,7 @@ module _ {X Y F : Type 0} (g : X → Y) (f : Y → Y) (d : Y) (xs ys : List X) (
       past le = ap (map g) (nowhere le) ∙ sym (set_out (map g xs) i _ (omega (arith, length-map xs g)))
 
 -- the rows of two accounts, changed one after the other
-module _ (k k' : Books) (f h : Standing → Standing) (d c : ℕ) {i j : ℕ} {rs ss : List Standing} where
-  pub between : k ≡ k' → i ≡ row_place k' d → j ≡ row_place k' c → rs ≡ set k.rows i (f (get_or k.rows i no_row)) → ss ≡ set rs j (h (get_or rs j no_row)) → books ss k.held k.highest k.queue k.lines ≡ with_row h (row_place k' c) (with_row f (row_place k' d) k')
-  between same from to one two =
-      (λ n. books ((two ∙ ap (λ rows. set rows j (h (get_or rows j no_row))) one) n) k.held k.highest k.queue k.lines)
-      ∙ (λ n. with_row h (to n) (with_row f (from n) (same n)))
+module _ (k : Books) (f h : Standing → Standing) (d c : ℕ) {i j : ℕ} {rs ss : List Standing} where
+  pub between : i ≡ row_place k d → j ≡ row_place k c → rs ≡ set k.rows i (f (get_or k.rows i no_row)) → ss ≡ set rs j (h (get_or rs j no_row)) → books ss k.held k.highest k.queue k.lines ≡ with_row h (row_place k c) (with_row f (row_place k d) k)
+  between from to one two =
+      (λ n. books ((two ∙ ap (λ rows. set rows j (h (get_or rows j no_row))) one) n) k.held k.highest k.queue k.lines) ∙ (λ n. with_row h (to n) (with_row f (from n) k))

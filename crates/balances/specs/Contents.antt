@@ -1,6 +1,6 @@
 -- What the tables say: the accounts and reservations in the order in which they came, the highest number, the
 -- queue of deadlines and the report row.
-use Rattle.std.specs.Prelude.{ℕ, ◌^◌, ◌<◌, cond, List, [], ◌∷◌, ◌++◌, map, length, Some, None, Option, nat_lt, slice_index_or, slice_set}
+use Rattle.std.specs.Prelude.{ℕ, ◌≤◌, cond, List, [], ◌∷◌, ◌++◌, map, length, Some, None, Option, nat_lt, slice_index_or, slice_set}
 use Rattle.meaning.specs.declared.reservation.Reservation.{Reservation}
 use Rattle.meaning.specs.declared.fate.Fate.TheVariants.{Live}
 use Rattle.meaning.specs.Questions.{Standing}
@@ -16,12 +16,9 @@ pub record Books : Type 0 where
   pub queue : List Due
   pub lines : List Line
 
--- no side of an account passes the top
-pub record Small (s : Standing) : Type 0 where
-  pub dp : s.dp < 2 ^ 56
-  pub dq : s.dq < 2 ^ 56
-  pub cp : s.cp < 2 ^ 56
-  pub cq : s.cq < 2 ^ 56
+-- no more accounts, and no more lines of the listing, than there is room for
+abbrev pub Few : Books → Type 0
+Few k = (length k.rows ≤ 64) × (length k.lines ≤ 64)
 
 abbrev pub empty : Books
 empty = record { rows = []; held = []; highest = 0; queue = []; lines = [] }

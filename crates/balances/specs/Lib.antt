@@ -1,6 +1,7 @@
 pub mod Queues
 pub mod Places
 pub mod Contents
+pub mod Shown
 pub mod Books
 pub mod Noted
 pub mod Undone

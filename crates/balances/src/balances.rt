@@ -1,4 +1,7 @@
 // The tables of a book, and what an open chain notes of them. Beside the struct stands nothing that names it in specs/.
+ghost use Rattle.balances.specs.Contents.{Few};
+ghost use Rattle.balances.specs.Shown.{shown};
+
 use crate::notes::Notes;
 use crate::plain::Tables;
 
@@ -9,4 +12,5 @@ mod legs;
 pub struct Balances {
     pub(crate) tables: Tables,
     pub(crate) notes: Notes,
+    ghost few: { Few (shown tables) },
 }

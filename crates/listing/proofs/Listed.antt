@@ -14,7 +14,7 @@ use Rattle.ordered.specs.Keyed.{line_of}
 use Rattle.ordered.specs.Orders.{line_before}
 use Rattle.ordered.proofs.Keyed.{map-in_order}
 use Rattle.balances.specs.declared.balances.Balances.{Balances}
-use Rattle.balances.specs.Books.{Books, Small, books_of, row_asked}
+use Rattle.balances.specs.Books.{Books, books_of, row_asked}
 use Rattle.balances.specs.Judged.{sum}
 use Rattle.laws.specs.Steps.{Reads}
 use Rattle.laws.proofs.Known.{akey, known}
@@ -25,7 +25,7 @@ use Rattle.listing.specs.declared.sums.Sums.{Sums}
 use Rattle.listing.specs.Letters.{letters_in}
 use Rattle.listing.specs.Sums.{no_sums, plus, plus_keys, sums_of}
 use Rattle.listing.specs.Lines.{account_bytes, sum_bytes, bytes_if, ends_in, keys_bytes}
-use Rattle.listing.proofs.Totals.{small}
+use Rattle.listing.proofs.Totals.{Small, small}
 use Rattle.listing.proofs.Summing.{Shown, sum-in_order, sum_exact}
 
 account_line_lem : (J : Journal) (T : ℕ) (A : Opening) → account_bytes (standing J T A) ≡ account_line J T A
@@ -68,14 +68,14 @@ module _ (k : Books) (J : Journal) (T : ℕ) where
         (one_sum (λ s. s.credits_pending) (λ a. a.cp) (λ a s. refl) refl (All-weaker _ _ (λ A h. h.cp) As low))
         (one_sum (λ s. s.credits_posted) (λ a. a.cq) (λ a s. refl) refl (All-weaker _ _ (λ A h. h.cq) As low))
 
-pub listed : (policy : Policy) (b : Balances) (J : Journal) (T : ℕ) → length (books_of b).lines ≤ 64 → All Small (books_of b).rows → Reads policy J → books_of b ≡ image_of J T → keys_bytes (books_of b) (books_of b).lines ≡ listing J T
-listed policy b J T lines sides reads e =
+pub listed : (policy : Policy) (b : Balances) (J : Journal) (T : ℕ) → Reads policy J → books_of b ≡ image_of J T → keys_bytes (books_of b) (books_of b).lines ≡ listing J T
+listed policy b J T reads e =
     let k = books_of b in
     let As = in_order earlier (accounts J) in
     let row : k.lines ≡ map line_of As = ap (λ (x : Books). x.lines) e ∙ sym (map-in_order earlier line_before line_of (λ A B. refl) (accounts J)) in
     let found = all_found akey (accounts J) (known policy J reads).apart in
     let shown : All (Shown k J T) (accounts J) = All-weaker (λ A. find akey (akey A) (accounts J) ≡ Some A) (Shown k J T) (λ A f. ap (λ (x : Books). row_asked x A.number) e ∙ (asks policy J reads T).account A.number ∙ ap (option_map (standing J T)) f) (accounts J) found in
     let shown-in : All (Shown k J T) As = all_in_order earlier (Shown k J T) (accounts J) shown in
-    let low = all_in_order earlier (λ A. Small (standing J T A)) (accounts J) (small k J T sides e) in
-    let few : length As ≤ 64 = omega (arith, lines, ap length row, length-map As line_of) in
+    let low = all_in_order earlier (λ A. Small (standing J T A)) (accounts J) (small b J T e) in
+    let few : length As ≤ 64 = omega (arith, b.few.1, ap length row, length-map As line_of) in
     ap (keys_bytes k) row ∙ shown_lines k J T (λ L. sum_line_lem k J T row shown-in few L low) As shown-in

@@ -1,10 +1,26 @@
 -- The totals of a journal's accounts are small, where tables hold them.
-use Rattle.std.proofs.Common.{◌≡◌, ℕ, List, [], ◌∷◌, ◌++◌, subst}
+use Rattle.std.proofs.Common.{◌≡◌, ℕ, ◌^◌, ◌<◌, List, [], ◌∷◌, ◌++◌, map, subst, arith}
 use Rattle.std.specs.List.{AllByRecursion as All}
+use Rattle.meaning.specs.declared.account.Account.{Account}
 use Rattle.meaning.specs.Given.{Journal, accounts}
-use Rattle.meaning.specs.Questions.{standing}
-use Rattle.balances.specs.Books.{Books, Small}
+use Rattle.meaning.specs.Questions.{Standing, standing}
+use Rattle.meaning.specs.Rows.{standing_of}
+use Rattle.balances.specs.declared.balances.Balances.{Balances}
+use Rattle.balances.specs.Books.{Books, books_of}
 use Rattle.image.specs.Image.{oldest, image_of}
+
+pub record Small (s : Standing) : Type 0 where
+  pub dp : s.dp < 2 ^ 56
+  pub dq : s.dq < 2 ^ 56
+  pub cp : s.cp < 2 ^ 56
+  pub cq : s.cq < 2 ^ 56
+
+all_small : (as' : List Account) → All Small (map standing_of as')
+all_small [] = tt
+all_small (a ∷ as') =
+    let d = a.totals.debits.fits in
+    let c = a.totals.credits.fits in
+    (record { dp = omega arith; dq = omega arith; cp = omega arith; cq = omega arith }, all_small as')
 
 module _ {X : Type 0} (P : X → Type 0) where
   all_parts : (xs ys : List X) → All P (xs ++ ys) → All P xs × All P ys
@@ -15,5 +31,5 @@ module _ {X : Type 0} (P : X → Type 0) where
   all_of_oldest f [] h = tt
   all_of_oldest f (y ∷ ys) h = let r = all_parts (oldest f ys) (f y ∷ []) h in (r.1.0, all_of_oldest f ys r.0)
 
-pub small : (k : Books) (J : Journal) (T : ℕ) → All Small k.rows → k ≡ image_of J T → All (λ A. Small (standing J T A)) (accounts J)
-small k J T sides e = all_of_oldest Small (standing J T) (accounts J) (subst (λ (k : Books). All Small k.rows) e sides)
+pub small : (b : Balances) (J : Journal) (T : ℕ) → books_of b ≡ image_of J T → All (λ A. Small (standing J T A)) (accounts J)
+small b J T e = all_of_oldest Small (standing J T) (accounts J) (subst (λ (k : Books). All Small k.rows) e (all_small b.tables.accounts))

@@ -21,7 +21,6 @@ mod sums;
 pub fn report(balances: &Balances, buffer: &mut [u8]) -> Result<usize, Refusal>
     ensures { (policy : Policy) (J : Journal) (T : ℕ) → Reads policy J → books_of balances.now ≡ image_of J T → Reports J T buffer.old result buffer.new }
 {
-    balances.bounds();
     let len = lines::put_listing(balances, &mut []);
     if buffer.len() < len {
         return Err(Refusal::BufferTooShort);

@@ -1,5 +1,5 @@
 -- What the three laws of an order give for two and three keys, and for one key and many.
-use Rattle.std.proofs.Common.{◌≡◌, Bool, true, false, cond, List, [], ◌∷◌, refl}
+use Rattle.std.proofs.Common.{◌≡◌, ◌+◌, Bool, true, false, cond, List, [], ◌∷◌, length, refl, arith}
 use Rattle.std.specs.List.{AllByRecursion as All}
 use Rattle.std.proofs.ByRecursion.{All-weaker}
 use Rattle.std.proofs.lemmas.Bool.{both_ways}
@@ -12,6 +12,12 @@ module _ {K : Type 0} (before : K → K → Bool) where
   all_put P k (x ∷ xs) here rest =
       let r = all_put P k xs here rest.1 in
       elim (before k x) as (λ b. All P (cond b (k ∷ (x ∷ xs)) (x ∷ put before k xs))) [ true ↦ (here, rest) | false ↦ (rest.0, r) ]
+
+  pub length-put : (k : K) (xs : List K) → length (put before k xs) ≡ length xs + 1
+  length-put k [] = refl
+  length-put k (x ∷ xs) =
+      let r = length-put k xs in
+      elim (before k x) as (λ b. length (cond b (k ∷ (x ∷ xs)) (x ∷ put before k xs)) ≡ length (x ∷ xs) + 1) [ true ↦ omega arith | false ↦ omega (arith, r) ]
 
   pub all_those : (P : K → Type 0) (p : K → Bool) (xs : List K) → All P xs → All P (those p xs)
   all_those P p [] h = tt

@@ -1,9 +1,8 @@
 // What a book asks of its tables.
-ghost use Rattle.std.specs.List.{AllByRecursion};
-ghost use Rattle.std.specs.Prelude.{◌≡◌, ◌≤◌, length};
+ghost use Rattle.std.specs.Prelude.{◌≡◌, length};
 ghost use Rattle.std.specs.Option.{option_map};
 ghost use Rattle.meaning.specs.Rows.{standing_of};
-ghost use Rattle.balances.specs.Books.{Small, books_of, empty, row_asked, held_asked, opened_with};
+ghost use Rattle.balances.specs.Books.{books_of, empty, row_asked, held_asked, opened_with};
 ghost use Rattle.balances.specs.Lapses.{next_due, lapsed_if, number_in, deadline_in};
 ghost use Rattle.balances.specs.Queues.{first, due_count, line_at};
 
@@ -54,18 +53,9 @@ impl Balances {
 
     // The key at a place of the listing.
     pub fn line_at(&self, place: usize) -> Option<Line>
-        ensures key { result ≡ line_at place (books_of self.now).lines }
-        ensures few { length (books_of self.now).lines ≤ 64 }
+        ensures { result ≡ line_at place (books_of self.now).lines }
     {
         self.tables.line_at(place)
-    }
-
-    // What every value keeps beside what it says, for proofs: few lines, and no side of an account above the top.
-    pub fn bounds(&self)
-        ensures lines { length (books_of self.now).lines ≤ 64 }
-        ensures sides { AllByRecursion Small (books_of self.now).rows }
-    {
-        self.tables.bounds();
     }
 
     // Lets the reservation lapse that falls due first, if its deadline has come; its number.

@@ -60,8 +60,9 @@ impl Chain<'_> {
         ensures answer { refusal_in result ≡ full_judged (noted_of self.old.balances.now) }
         ensures books { books_of self.new.balances.now ≡ (if is_ok result then transferred number debit credit amount (books_of self.old.balances.now) else books_of self.old.balances.now) }
     {
-        self.balances.notes.check_legs()?;
-        self.balances.transfer(number, debit, credit, amount);
+        let balances = &mut *self.balances;
+        balances.notes.check_legs()?;
+        balances.transfer(number, debit, credit, amount);
         Ok(())
     }
 
@@ -71,9 +72,10 @@ impl Chain<'_> {
         ensures answer { refusal_in result ≡ reserve_judged (noted_of self.old.balances.now) (books_of self.old.balances.now) }
         ensures books { books_of self.new.balances.now ≡ (if is_ok result then reserved held (books_of self.old.balances.now) else books_of self.old.balances.now) }
     {
-        self.balances.notes.check_legs()?;
-        self.balances.tables.check_room()?;
-        self.balances.reserve(held);
+        let balances = &mut *self.balances;
+        balances.notes.check_legs()?;
+        balances.tables.check_room()?;
+        balances.reserve(held);
         Ok(())
     }
 
@@ -83,12 +85,10 @@ impl Chain<'_> {
         ensures answer { refusal_in result ≡ or_else (post_judged number reservation amount (books_of self.old.balances.now)) (full_judged (noted_of self.old.balances.now)) }
         ensures books { books_of self.new.balances.now ≡ (if is_ok result then closed Post number (held_place (books_of self.old.balances.now) reservation) amount (books_of self.old.balances.now) else books_of self.old.balances.now) }
     {
-        self.balances
-            .tables
-            .check_post(number, reservation, amount)?;
-        self.balances.notes.check_legs()?;
-        self.balances
-            .close(number, reservation, Event::Post, amount);
+        let balances = &mut *self.balances;
+        balances.tables.check_post(number, reservation, amount)?;
+        balances.notes.check_legs()?;
+        balances.close(number, reservation, Event::Post, amount);
         Ok(())
     }
 
@@ -98,9 +98,10 @@ impl Chain<'_> {
         ensures answer { refusal_in result ≡ or_else (void_judged number reservation (books_of self.old.balances.now)) (full_judged (noted_of self.old.balances.now)) }
         ensures books { books_of self.new.balances.now ≡ (if is_ok result then closed Void number (held_place (books_of self.old.balances.now) reservation) 0 (books_of self.old.balances.now) else books_of self.old.balances.now) }
     {
-        self.balances.tables.check_void(number, reservation)?;
-        self.balances.notes.check_legs()?;
-        self.balances.close(number, reservation, Event::Void, 0);
+        let balances = &mut *self.balances;
+        balances.tables.check_void(number, reservation)?;
+        balances.notes.check_legs()?;
+        balances.close(number, reservation, Event::Void, 0);
         Ok(())
     }
 }

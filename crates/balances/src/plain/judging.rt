@@ -1,5 +1,6 @@
 // Which legs the tables refuse.
 ghost use Rattle.std.specs.Prelude.{◌≡◌, IfOk};
+ghost use Rattle.balances.specs.Shown.{shown};
 ghost use Rattle.balances.specs.Contents.{held_asked};
 ghost use Rattle.meaning.specs.Rows.{standing_of};
 ghost use Rattle.balances.specs.Judged.{refusal_in, number_judged, amount_judged, pair_judged, room_judged, fate_judged, part_of_judged, void_judged, post_judged};
@@ -62,7 +63,7 @@ pub(crate) fn check_part(reserved: u64, amount: u64) -> Result<(), Refusal>
 impl Tables {
     // Numbers rise.
     pub(crate) fn check_number(&self, number: u32) -> Result<(), Refusal>
-        ensures { refusal_in result ≡ number_judged number self.now }
+        ensures { refusal_in result ≡ number_judged number (shown self.now) }
     {
         if number == 0 || number <= self.highest {
             return Err(Refusal::OrderNumber);
@@ -72,7 +73,7 @@ impl Tables {
 
     // Room for one reservation more.
     pub(crate) fn check_room(&self) -> Result<(), Refusal>
-        ensures { refusal_in result ≡ room_judged self.now }
+        ensures { refusal_in result ≡ room_judged (shown self.now) }
     {
         if self.reservations.is_full() {
             return Err(Refusal::ReservationsFull);
@@ -82,8 +83,8 @@ impl Tables {
 
     // The reservation of a number, which may be closed.
     pub(crate) fn check_void(&self, number: u32, reservation: u32) -> Result<Reservation, Refusal>
-        ensures answer { refusal_in result ≡ void_judged number reservation self.now }
-        ensures found { IfOk result (λ held. held_asked self.now reservation ≡ Some held) }
+        ensures answer { refusal_in result ≡ void_judged number reservation (shown self.now) }
+        ensures found { IfOk result (λ held. held_asked (shown self.now) reservation ≡ Some held) }
     {
         self.check_number(number)?;
         let held = self
@@ -100,7 +101,7 @@ impl Tables {
         reservation: u32,
         amount: u64,
     ) -> Result<(), Refusal>
-        ensures { refusal_in result ≡ post_judged number reservation amount self.now }
+        ensures { refusal_in result ≡ post_judged number reservation amount (shown self.now) }
     {
         let held = self.check_void(number, reservation)?;
         check_part(held.amount, amount)

@@ -1,5 +1,6 @@
 // What legs do to the tables.
 ghost use Rattle.std.specs.Prelude.{◌≡◌};
+ghost use Rattle.balances.specs.Shown.{shown};
 ghost use Rattle.balances.specs.Contents.{held_place};
 ghost use Rattle.balances.specs.Legs.{due_of, moved, released, with_held, without_due, ended, transferred, reserved, closed, lapsed};
 
@@ -20,7 +21,7 @@ fn due_of(held: &Reservation) -> Due
 impl Tables {
     // More pending and posted, from one account to another.
     fn move_between(&mut self, debit: u32, credit: u32, pending: u64, posted: u64)
-        ensures { self.new ≡ moved debit credit pending posted self.old }
+        ensures { shown self.new ≡ moved debit credit pending posted (shown self.old) }
     {
         let from = self.account_place(debit);
         let to = self.account_place(credit);
@@ -33,7 +34,7 @@ impl Tables {
     // An amount leaves what is pending between two accounts, and a part of it is posted. One function with two closures
     // would say no less than this one and `move_between`.
     fn release_between(&mut self, debit: u32, credit: u32, amount: u64, part: u64)
-        ensures { self.new ≡ released debit credit amount part self.old }
+        ensures { shown self.new ≡ released debit credit amount part (shown self.old) }
     {
         let from = self.account_place(debit);
         let to = self.account_place(credit);
@@ -45,7 +46,7 @@ impl Tables {
 
     // One reservation more, and its deadline in the queue.
     fn hold(&mut self, held: Reservation)
-        ensures { self.new ≡ with_held held self.old }
+        ensures { shown self.new ≡ with_held held (shown self.old) }
     {
         if !self.reservations.is_full() {
             self.reservations.push(held);
@@ -57,7 +58,7 @@ impl Tables {
 
     // The reservation at a place ends: its amount leaves what is pending, and a part of it is posted.
     fn end_at(&mut self, slot: usize, event: Event, part: u64)
-        ensures { self.new ≡ ended event slot part self.old }
+        ensures { shown self.new ≡ ended event slot part (shown self.old) }
     {
         let held = self.reservation_at(slot);
         self.release_between(held.debit, held.credit, held.amount, part);
@@ -66,14 +67,14 @@ impl Tables {
 
     // A key leaves the queue.
     fn leave(&mut self, key: Due)
-        ensures { self.new ≡ without_due key self.old }
+        ensures { shown self.new ≡ without_due key (shown self.old) }
     {
         self.queue.take_out(key);
     }
 
     // The reservation of a key lapses.
     pub(super) fn lapse(&mut self, key: Due)
-        ensures { self.new ≡ lapsed key self.old }
+        ensures { shown self.new ≡ lapsed key (shown self.old) }
     {
         let slot = self.reservation_place(key.number);
         self.end_at(slot, Event::Lapse, 0);
@@ -82,7 +83,7 @@ impl Tables {
 
     // Moves an amount for good.
     pub(crate) fn transfer(&mut self, number: u32, debit: u32, credit: u32, amount: u64)
-        ensures { self.new ≡ transferred number debit credit amount self.old }
+        ensures { shown self.new ≡ transferred number debit credit amount (shown self.old) }
     {
         self.move_between(debit, credit, 0, amount);
         self.highest = number;
@@ -90,7 +91,7 @@ impl Tables {
 
     // Sets an amount aside.
     pub(crate) fn reserve(&mut self, held: Reservation)
-        ensures { self.new ≡ reserved held self.old }
+        ensures { shown self.new ≡ reserved held (shown self.old) }
     {
         self.move_between(held.debit, held.credit, held.amount, 0);
         self.hold(held);
@@ -99,7 +100,7 @@ impl Tables {
 
     // Ends the reservation at a place, and posts a part of it.
     pub(crate) fn close(&mut self, number: u32, slot: usize, event: Event, part: u64)
-        ensures { self.new ≡ closed event number slot part self.old }
+        ensures { shown self.new ≡ closed event number slot part (shown self.old) }
     {
         let held = self.reservation_at(slot);
         self.end_at(slot, event, part);

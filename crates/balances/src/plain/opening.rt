@@ -1,6 +1,7 @@
 // Empty tables, and one account more.
 ghost use Rattle.std.specs.Prelude.{◌≡◌};
 ghost use Rattle.meaning.specs.Rows.{standing_of};
+ghost use Rattle.balances.specs.Shown.{shown};
 ghost use Rattle.balances.specs.Contents.{empty, no_row, opened_with};
 
 use super::Tables;
@@ -44,7 +45,7 @@ const NO_LINE: Line = Line {
 impl Tables {
     // No accounts, no reservations, no order taken.
     pub(crate) fn new() -> Tables
-        ensures { result ≡ empty }
+        ensures { shown result ≡ empty }
     {
         Tables {
             accounts: Row::new(no_account()),
@@ -57,7 +58,7 @@ impl Tables {
 
     // One account more, and its line, where there is room.
     pub(crate) fn open(&mut self, account: Account)
-        ensures { self.new ≡ opened_with (standing_of account) self.old }
+        ensures { shown self.new ≡ opened_with (standing_of account) (shown self.old) }
     {
         if !self.accounts.is_full() {
             self.accounts.push(account);

@@ -1,9 +1,9 @@
 // Where accounts and reservations stand, and what they show.
-ghost use Rattle.std.specs.List.{AllByRecursion};
-ghost use Rattle.std.specs.Prelude.{◌≡◌, ◌≤◌, length, slice_index_or};
+ghost use Rattle.std.specs.Prelude.{◌≡◌, length, slice_index_or};
 ghost use Rattle.std.specs.Option.{option_map};
 ghost use Rattle.meaning.specs.Rows.{standing_of};
-ghost use Rattle.balances.specs.Contents.{Small, no_row, no_reservation, row_place, held_place, row_asked, held_asked};
+ghost use Rattle.balances.specs.Shown.{shown};
+ghost use Rattle.balances.specs.Contents.{no_row, no_reservation, row_place, held_place, row_asked, held_asked};
 ghost use Rattle.balances.specs.Queues.{line_at};
 
 use super::Tables;
@@ -17,75 +17,64 @@ use ordered::Line;
 impl Tables {
     // The place of an account, or how many there are.
     pub(super) fn account_place(&self, number: u32) -> usize
-        ensures { result ≡ row_place self.now number }
+        ensures { result ≡ row_place (shown self.now) number }
     {
         place_of(self.accounts.as_slice(), number)
     }
 
     // The place of a reservation, or how many there are.
     pub(crate) fn reservation_place(&self, number: u32) -> usize
-        ensures { result ≡ held_place self.now number }
+        ensures { result ≡ held_place (shown self.now) number }
     {
         place_of(self.reservations.as_slice(), number)
     }
 
     // The account at a place, or one that stands for none: what is noted of a leg is plain values.
     pub(super) fn account_at(&self, place: usize) -> Account
-        ensures { standing_of result ≡ slice_index_or self.now.rows place no_row }
+        ensures { standing_of result ≡ slice_index_or (shown self.now).rows place no_row }
     {
         self.accounts.get(place).unwrap_or(no_account())
     }
 
     // The reservation at a place, or one that stands for none.
     pub(crate) fn reservation_at(&self, place: usize) -> Reservation
-        ensures { result ≡ slice_index_or self.now.held place no_reservation }
+        ensures { result ≡ slice_index_or (shown self.now).held place no_reservation }
     {
         self.reservations.get(place).unwrap_or(NO_RESERVATION)
     }
 
     // The account of a number.
     pub(crate) fn account(&self, number: u32) -> Option<Account>
-        ensures { option_map standing_of result ≡ row_asked self.now number }
+        ensures { option_map standing_of result ≡ row_asked (shown self.now) number }
     {
         self.accounts.get(self.account_place(number))
     }
 
     // The reservation of a number, with its fate.
     pub(crate) fn reservation(&self, number: u32) -> Option<Reservation>
-        ensures { result ≡ held_asked self.now number }
+        ensures { result ≡ held_asked (shown self.now) number }
     {
         self.reservations.get(self.reservation_place(number))
     }
 
     // How many accounts there are.
     pub(crate) fn opened(&self) -> usize
-        ensures { result ≡ length self.now.rows }
+        ensures { result ≡ length (shown self.now).rows }
     {
         self.accounts.len()
     }
 
     // How many reservations there are.
     pub(crate) fn reserved(&self) -> usize
-        ensures { result ≡ length self.now.held }
+        ensures { result ≡ length (shown self.now).held }
     {
         self.reservations.len()
     }
 
     // The key at a place of the listing.
     pub(crate) fn line_at(&self, place: usize) -> Option<Line>
-        ensures key { result ≡ line_at place self.now.lines }
-        ensures few { length self.now.lines ≤ 64 }
+        ensures { result ≡ line_at place (shown self.now).lines }
     {
-        let _few = self.lines.len();
         self.lines.get(place)
-    }
-
-    // What every value keeps beside what it says, for proofs: few lines, and no side of an account above the top.
-    pub(crate) fn bounds(&self)
-        ensures lines { length self.now.lines ≤ 64 }
-        ensures sides { AllByRecursion Small self.now.rows }
-    {
-        let _few = self.lines.len();
-        let _rows = &self.accounts;
     }
 }

@@ -1,5 +1,6 @@
 // What legs write over, and how it is put back.
 ghost use Rattle.std.specs.Prelude.{◌≡◌};
+ghost use Rattle.balances.specs.Shown.{shown};
 ghost use Rattle.balances.specs.Legs.{tracing};
 ghost use Rattle.balances.specs.Noted.{trace_of};
 ghost use Rattle.balances.specs.Undone.{undone, with_queue};
@@ -12,7 +13,7 @@ use ordered::{Due, Row};
 impl Tables {
     // What a leg between two accounts, and on the reservation at a place, may write over.
     pub(crate) fn trace(&self, debit: u32, credit: u32, slot: usize) -> Undo
-        ensures { trace_of result ≡ tracing debit credit slot self.now }
+        ensures { trace_of result ≡ tracing debit credit slot (shown self.now) }
     {
         let debit = self.account_place(debit);
         let credit = self.account_place(credit);
@@ -30,7 +31,7 @@ impl Tables {
 
     // Puts one leg back.
     pub(crate) fn put_back(&mut self, undo: &Undo)
-        ensures { self.new ≡ undone (trace_of undo.now) self.old }
+        ensures { shown self.new ≡ undone (trace_of undo.now) (shown self.old) }
     {
         self.accounts.set(undo.credit, undo.credit_was);
         self.accounts.set(undo.debit, undo.debit_was);
@@ -41,14 +42,14 @@ impl Tables {
 
     // The queue.
     pub(crate) fn queue(&self) -> &Row<Due, RESERVATIONS>
-        ensures { result.now ≡ self.now.queue }
+        ensures { result.now ≡ (shown self.now).queue }
     {
         &self.queue
     }
 
     // Another queue in its place.
     pub(crate) fn put_queue(&mut self, queue: &Row<Due, RESERVATIONS>)
-        ensures { self.new ≡ with_queue queue.now self.old }
+        ensures { shown self.new ≡ with_queue queue.now (shown self.old) }
     {
         self.queue.copy_from(queue);
     }

@@ -1,4 +1,5 @@
 use Rattle.std.proofs.Common.{get_or, ap, ◌∙◌}
+use Rattle.balances.specs.Books.{books_of}
 use Rattle.meaning.specs.declared.reservation.Reservation.{Reservation}
 use Rattle.balances.specs.Contents.{no_reservation}
 use Rattle.balances.specs.Legs.{tracing}
@@ -7,7 +8,7 @@ use Rattle.balances.proofs.balances.Balances.close.Goals as goal
 
 pub returns-clause-back : goal.returns-clause-back
 returns-clause-back c =
-    let k = c.args.self.now.tables in
+    let k = books_of c.args.self.now in
     let i = c.reservation_place-slot.result in
     let R = get_or k.held i no_reservation in
     let traced = c.trace.ensures ∙ ap (λ (Q : Reservation). tracing Q.debit Q.credit i k) c.reservation_at-held.ensures in

@@ -1,4 +1,6 @@
 use Rattle.std.proofs.Common.{◌∙◌}
+use Rattle.balances.specs.Shown.{shown}
+use Rattle.balances.specs.Books.{books_of}
 use Rattle.balances.specs.Noted.{trace_of}
 use Rattle.balances.proofs.Undoing.{latest_back}
 use Rattle.balances.proofs.balances.Balances.unwind.Goals as goal
@@ -6,4 +8,4 @@ use Rattle.balances.proofs.balances.Balances.unwind.Goals as goal
 pub loop-undo-preserved : goal.loop-undo-preserved
 loop-undo-preserved c =
     let s = c.loop-undo.self in
-    latest_back s.notes c.take_last.new.self (trace_of c.in-Some.undo) s.tables c.put_back.new.self c.in-Some.ensures.traces c.in-Some.ensures.queue c.put_back.ensures ∙ c.loop-undo.invariant
+    latest_back s.notes c.take_last.new.self (trace_of c.in-Some.undo) (books_of s) (shown c.put_back.new.self) c.in-Some.ensures.traces c.in-Some.ensures.queue c.put_back.ensures ∙ c.loop-undo.invariant

@@ -1,10 +1,10 @@
-use Rattle.std.proofs.Common.{get_or, unwrap_or, ap, ◌∙◌}
+use Rattle.std.proofs.Common.{unwrap_or, ap, ◌∙◌}
 use Rattle.std.proofs.lemmas.Option.{unwrap_or-slice_get}
-use Rattle.balances.specs.Contents.{Books, no_reservation}
+use Rattle.balances.specs.Contents.{no_reservation}
 use Rattle.balances.proofs.plain.Tables.reservation_at.Goals as goal
 
 pub returns : goal.returns
 returns c =
     let i = c.args.place in
     (c.unwrap_or.ensures ∙ ap (λ o. unwrap_or o no_reservation) c.get.ensures)
-    ∙ (unwrap_or-slice_get c.self.inside.reservations i no_reservation ∙ ap (λ (k : Books). get_or k.held i no_reservation) c.self.view_is)
+    ∙ (unwrap_or-slice_get c.args.self.now.reservations i no_reservation)

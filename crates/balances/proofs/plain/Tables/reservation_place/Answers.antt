@@ -5,4 +5,4 @@ use Rattle.balances.proofs.plain.Tables.reservation_place.Goals as goal
 
 pub returns : goal.returns
 returns c =
-    rw (← c.self.view_is, ← c.as_slice.ensures.items) (c.place_of.ensures ∙ before_number (λ (r : Reservation). r.number) c.args.number c.as_slice.result.now)
+    rw (← c.as_slice.ensures.items) (c.place_of.ensures ∙ before_number (λ (r : Reservation). r.number) c.args.number c.as_slice.result.now)
