@@ -66,6 +66,7 @@ impl Page<'_> {
         ensures { self.new ≡ written (keys_bytes (books_of balances.now) (books_of balances.now).lines) self.old }
     {
         let mut keys = Keys::new(balances);
+        // `ends` looks at the key that follows, so the keys are taken one by one.
         while let Some(key) = keys.next() {
             self.key(balances, &key);
             if keys.ends(key.ledger) {

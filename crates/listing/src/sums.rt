@@ -9,6 +9,7 @@ use balances::Balances;
 use meaning::Account;
 use ordered::Line;
 
+// Sums may pass the top of a side, so these are no `Totals`.
 #[derive(Clone, Copy, Default)]
 pub(crate) struct Sums {
     pub accounts: u64,

@@ -1,4 +1,7 @@
 // How orders, openings and answers are printed.
+ghost use Rattle.std.specs.Prelude.{Some, decimal};
+ghost use Rattle.meaning.specs.Numbers.{number_of};
+
 use crate::fate::Fate;
 use crate::opening::Opening;
 use crate::order::{Action, Order};
@@ -60,6 +63,8 @@ impl fmt::Display for Opening {
 
 // The refusal's number.
 impl fmt::Display for Refusal {
+    ghost output = { λ r. Some (decimal (number_of r)) };
+
     fn fmt<W: fmt::Write>(&self, f: &mut fmt::Formatter<W>) -> fmt::Result {
         write!(f, "{}", self.number())
     }

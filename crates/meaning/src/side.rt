@@ -13,6 +13,7 @@ pub struct Side {
 }
 
 impl Side {
+    // A `Default` by hand would say no more than this name.
     pub fn zero() -> Side
         ensures pending { result.pending ≡ 0 }
         ensures posted { result.posted ≡ 0 }

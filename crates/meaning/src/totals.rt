@@ -10,6 +10,7 @@ pub struct Totals {
 }
 
 impl Totals {
+    // A `Default` by hand would say no more than this name.
     pub fn zero() -> Totals
         ensures debits { (result.debits.pending ≡ 0) × (result.debits.posted ≡ 0) }
         ensures credits { (result.credits.pending ≡ 0) × (result.credits.posted ≡ 0) }

@@ -86,6 +86,8 @@ fn held<K: Copy>(row: &[K], len: usize) -> usize
     len.min(row.len())
 }
 
+// The two functions on a slice are there for whoever keeps keys in memory of their own; `Row` calls them too.
+
 // Puts `key` at its place among the first `len` of the row, behind its equals, and says how many there are then.
 // Where the row is full nothing changes.
 pub fn put<K: Key>(row: &mut [K], len: usize, key: K) -> usize

@@ -12,7 +12,8 @@ use journal::Journal;
 use meaning::{Opening, Order};
 use policy::Policy;
 
-// One function for each call that takes a list or an opening: what they share is `put`.
+// One function for each call that takes a list or an opening: what they share is `put`, and that the desk's lists stay
+// where they are (`Same`), which relates two states, so no type can say it.
 fn ask_open<J: Journal, P: Policy>(
     book: &mut Book<J, P>,
     at: usize,

@@ -11,7 +11,7 @@ use meaning::limits::RESERVATIONS;
 use policy::Policy;
 
 // Creates a book and makes every call of its past. Then creates a second one over another journal, moves it to the
-// first one's moment, and makes every further call on both.
+// first one's moment, and makes every further call on both. The contract names each of the lists.
 pub fn history<J: Journal, P: Policy, K: Journal, Q: Policy>(
     journal: J,
     policy: P,

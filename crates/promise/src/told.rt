@@ -6,7 +6,7 @@ ghost use Rattle.promise.specs.Telling.{StatementOf, statement_of};
 
 use meaning::{Account, Moved, Opening, Reading, Refusal, Reservation};
 
-// An account with its four totals.
+// An account with its four totals, as plain values that two books can be compared by.
 #[derive(Clone, Copy)]
 pub struct Statement {
     pub account: Opening,
@@ -36,7 +36,7 @@ impl From<Account> for Statement {
     }
 }
 
-// What each call answers; nothing where none was made.
+// What each call answers; nothing where none was made, as on a new desk.
 #[derive(Clone, Copy)]
 pub enum Told {
     Nothing,

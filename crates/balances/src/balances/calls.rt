@@ -12,6 +12,7 @@ use crate::plain::Tables;
 use meaning::{Account, Reservation};
 use ordered::Line;
 
+// The tables' own functions under the names by which others ask: no one else can name the tables.
 impl Balances {
     // No accounts, no reservations, no order taken.
     pub fn new() -> Balances

@@ -17,7 +17,8 @@ impl Balances {
         self.notes.begin(self.tables.queue());
     }
 
-    // Moves an amount for good.
+    // Moves an amount for good. Of this and the next two: what a leg notes depends on the room before it, so no type can
+    // say it.
     pub(crate) fn transfer(&mut self, number: u32, debit: u32, credit: u32, amount: u64)
         ensures books { books_of self.new ≡ transferred number debit credit amount (books_of self.old) }
         ensures back { legs_of self.old < 16 → rolled_back self.new ≡ rolled_back self.old }

@@ -27,12 +27,10 @@ impl Chain<'_> {
         let tables = &self.balances.tables;
         tables.check_number(movement.number)?;
         check_amount(amount)?;
-        let Some(debit) = tables.account(movement.debit) else {
-            return Err(Refusal::DebitUnknown);
-        };
-        let Some(credit) = tables.account(movement.credit) else {
-            return Err(Refusal::CreditUnknown);
-        };
+        let debit = tables.account(movement.debit).ok_or(Refusal::DebitUnknown)?;
+        let credit = tables
+            .account(movement.credit)
+            .ok_or(Refusal::CreditUnknown)?;
         check_pair(&debit, &credit, amount)?;
         Ok(Outlook { debit, credit })
     }

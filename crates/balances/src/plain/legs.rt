@@ -8,7 +8,7 @@ use super::Tables;
 use meaning::{Event, Reservation};
 use ordered::Due;
 
-// The key of a reservation in the queue.
+// The key of a reservation in the queue. Asked for in two places here, and named like its definition.
 fn due_of(held: &Reservation) -> Due
     ensures { result ≡ due_of held.now }
 {

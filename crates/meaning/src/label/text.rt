@@ -58,7 +58,7 @@ impl Label {
         }
     }
 
-    // The label of a text of at most 8 bytes.
+    // The label of a text of at most 8 bytes. There is no more to say of another text, so this is no `FromStr`.
     pub fn parse(text: &str) -> Option<Label>
         ensures { result ≡ label_named text.now }
     {
