@@ -1,8 +1,5 @@
-use Rattle.promise.proofs.Turns.{same_none, same_then, along_none, along_more, along_all}
+use Rattle.promise.proofs.Turns.{same_then, along_more}
 use Rattle.promise.proofs.runs.run_calls.Goals as goal
-
-pub loop-next-init : goal.loop-next-init
-loop-next-init g c = (same_none c.args.desk.now, along_none g.J.Journal g.P.Policy c.args.orders.now c.args.book.now c.args.desk.now c.args.calls.now)
 
 pub loop-next-preserved : goal.loop-next-preserved
 loop-next-preserved g c =
@@ -11,11 +8,3 @@ loop-next-preserved g c =
       same_then c.args.desk.now c.loop-next.desk c.call.new.desk inv.0 e.same,
       along_more g.J.Journal g.P.Policy c.args.orders.now c.args.book.now c.args.desk.now c.args.calls.now c.loop-next.next-index _ c.loop-next.book c.call.new.book c.loop-next.desk c.call.new.desk c.loop-next-test.true inv.1 e.made,
     )
-
-pub returns : goal.returns
-returns g c =
-    let inv = c.loop-next.invariant in
-    record {
-      same = inv.0;
-      made = along_all g.J.Journal g.P.Policy c.args.orders.now c.args.book.now c.args.desk.now c.args.calls.now c.loop-next.next-index c.loop-next.book c.loop-next.desk c.loop-next-test.false inv.1;
-    }
