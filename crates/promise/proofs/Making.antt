@@ -1,16 +1,15 @@
 -- What a call makes of book and desk, put together from what its parts gave.
-use Rattle.std.proofs.Common.{◌≡◌, ℕ, ◌+◌, ◌-◌, true, false, leb, List, [], ◌++◌, length, take, drop, set, sym, refl, ap, ◌∙◌, subst, arith}
+use Rattle.std.proofs.Common.{◌≡◌, ℕ, ◌+◌, ◌-◌, true, leb, List, [], ◌++◌, length, take, drop, set, sym, refl, ap, ◌∙◌, subst, arith}
 use borrow.Rule.Slice.PartMut.{put_mid}
 use Rattle.std.proofs.lemmas.List.{length-drop, length-take-le}
 use Rattle.std.proofs.lemmas.Slice.{put_mid-paste}
 use Rattle.std.proofs.lemmas.List.Edits.{paste_all}
-use Rattle.std.proofs.lemmas.Bool.{cond-true, cond-false, and_parts, leb-true}
+use Rattle.std.proofs.lemmas.Bool.{cond-true, and_parts, leb-true}
 use Rattle.meaning.specs.declared.order.Order.{Order}
 use Rattle.meaning.specs.declared.record.Record.{Record}
 use Rattle.journal.specs.declared.journal.Journal as journal
 use Rattle.policy.specs.declared.policy.Policy as policy
 use Rattle.steps.specs.Written.{Wrote}
-use Rattle.steps.proofs.Writes.{wrote_none}
 use Rattle.book.specs.declared.book.Book.{Book}
 use Rattle.book.specs.States.{policy_of, state_of, After}
 use Rattle.promise.specs.declared.call.Call.{Call}
@@ -51,18 +50,4 @@ module _ {J P : Type 0} (j : journal.Ghosts J) (p : policy.Ghosts P) (os : List 
         wrote = subst (λ xs. Wrote j b.journal xs b'.journal) (sym (cond-true (proper (policy_of j p b) os here c.ask) new [] fits)) A.journal;
         policy = A.policy;
         reading = A.reading;
-      }
-
-  pub unmoved : After j p b [] b.moment b
-  unmoved = record { journal = wrote_none j b.journal; moment = refl; policy = refl; reading = refl }
-
-  -- a call whose lists are not
-  pub made_nothing : (c : Call) (d' : Desk) → proper (policy_of j p b) os here c.ask ≡ false → d'.told.now ≡ d.told.now → d'.answers.now ≡ d.answers.now → d'.lapses.now ≡ d.lapses.now → d'.bytes.now ≡ d.bytes.now → Calls j p os b d c b d'
-  made_nothing c d' off told answers lapses bytes =
-      let same : world_of j p b d' ≡ here = λ i. record { state = state_of j p b; told = told i; answers = answers i; lapses = lapses i; bytes = bytes i } in
-      record {
-        world = same ∙ sym (cond-false (proper (policy_of j p b) os here c.ask) (made (policy_of j p b) os here c) here off);
-        wrote = subst (λ xs. Wrote j b.journal xs b.journal) (sym (cond-false (proper (policy_of j p b) os here c.ask) (writes (policy_of j p b) os here c.ask) [] off)) (wrote_none j b.journal);
-        policy = refl;
-        reading = refl;
       }

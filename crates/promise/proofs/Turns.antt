@@ -1,22 +1,19 @@
 -- One call more of a list of calls.
-use Rattle.std.proofs.Common.{◌≡◌, ℕ, ◌+◌, ◌<◌, ◌≤◌, List, [], ◌++◌, length, get_or, drop, sym, refl, ap, ◌∙◌, subst}
-use Rattle.std.proofs.lemmas.List.{drop_more, drop_all, append_assoc, append-nil}
+use Rattle.std.proofs.Common.{◌≡◌, ℕ, ◌+◌, ◌<◌, List, ◌++◌, length, get_or, drop, sym, ap, ◌∙◌, subst}
+use Rattle.std.proofs.lemmas.List.{drop_more, append_assoc}
 use Rattle.meaning.specs.declared.order.Order.{Order}
 use Rattle.meaning.specs.declared.record.Record.{Record}
 use Rattle.meaning.specs.Rules.{Policy}
 use Rattle.journal.specs.declared.journal.Journal as journal
 use Rattle.policy.specs.declared.policy.Policy as policy
 use Rattle.steps.specs.Written.{Wrote}
-use Rattle.steps.proofs.Writes.{wrote_none, wrote_then}
+use Rattle.steps.proofs.Writes.{wrote_then}
 use Rattle.book.specs.declared.book.Book.{Book}
 use Rattle.book.specs.States.{policy_of}
 use Rattle.promise.specs.declared.call.Call.{Call}
 use Rattle.promise.specs.declared.desk.Desk.{Desk}
-use Rattle.promise.specs.Made.{Same, world_of, Calls, CallsAll}
+use Rattle.promise.specs.Made.{Same, world_of, Calls}
 use Rattle.promise.specs.Worlds.{next, adds, final, adds_all}
-
-pub same_none : (d : Desk) → Same d d
-same_none d = record { told = refl; answers = refl; lapses = refl; bytes = refl }
 
 pub same_then : (d e f : Desk) → Same d e → Same e f → Same d f
 same_then d e f p q = record { told = q.told ∙ p.told; answers = q.answers ∙ p.answers; lapses = q.lapses ∙ p.lapses; bytes = q.bytes ∙ p.bytes }
@@ -34,9 +31,6 @@ module _ {J P : Type 0} (j : journal.Ghosts J) (p : policy.Ghosts P) (os : List 
     pub policy : b'.policy ≡ b.policy
     pub reading : b'.reading ≡ b.reading
 
-  pub along_none : Along 0 b d
-  along_none = record { new = []; left = refl; adds_left = refl; wrote = wrote_none j b.journal; policy = refl; reading = refl }
-
   pub along_more : (i : ℕ) (o : Call) (b' b'' : Book J P j p) (d' d'' : Desk) → i < length cs → Along i b' d' → Calls j p os b' d' (get_or cs i o) b'' d'' → Along (i + 1) b'' d''
   along_more i o b' b'' d' d'' lt A M =
       let c = get_or cs i o in
@@ -52,14 +46,4 @@ module _ {J P : Type 0} (j : journal.Ghosts J) (p : policy.Ghosts P) (os : List 
         wrote = wrote_then j b.journal b'.journal b''.journal A.new added A.wrote (subst (λ q. Wrote j b'.journal (adds q os w c) b''.journal) same M.wrote);
         policy = M.policy ∙ A.policy;
         reading = M.reading ∙ A.reading;
-      }
-
-  pub along_all : (i : ℕ) (b' : Book J P j p) (d' : Desk) → length cs ≤ i → Along i b' d' → CallsAll j p os b d cs b' d'
-  along_all i b' d' past A =
-      let none = drop_all i cs past in
-      record {
-        world = ap (final admits os (world_of j p b' d')) (sym none) ∙ A.left;
-        wrote = subst (λ v. Wrote j b.journal v b'.journal) (sym (append-nil A.new) ∙ (ap (λ v. A.new ++ adds_all admits os (world_of j p b' d') v) (sym none) ∙ A.adds_left)) A.wrote;
-        policy = A.policy;
-        reading = A.reading;
       }
