@@ -1,7 +1,7 @@
 -- A leg that is put back leaves the tables as they were.
-use Rattle.std.proofs.Common.{◌≡◌, ℕ, ◌+◌, ◌<◌, Bool, true, false, cond, ltb, List, [], ◌∷◌, ◌++◌, length, get_or, take, set, sym, refl, ap, ◌∙◌, ⊎_elim, arith}
+use Rattle.std.proofs.Common.{◌≡◌, ℕ, ◌<◌, Bool, true, false, cond, ltb, List, [], ◌∷◌, ◌++◌, length, get_or, take, set, sym, refl, ap, ◌∙◌, ⊎_elim, arith}
 use lib.Seq.{set_out}
-use Rattle.std.proofs.lemmas.List.{set-set, set_comm, set-get_or, take_all, take_at, set_at, length_push}
+use Rattle.std.proofs.lemmas.List.{set-set, set_comm, set-get_or, take_all, take_at, set_at}
 use Rattle.std.proofs.lemmas.Bool.{cases_eq, lt-ltb, cond-true}
 use Rattle.meaning.specs.declared.reservation.Reservation.{Reservation}
 use Rattle.meaning.specs.declared.fate.Event.{Event}
@@ -82,12 +82,6 @@ module _ (k : Books) (q : List Due) where
 pub leg_back : (n n' : Noted) (t t' : Trace) (k k' k'' : Books) → n' ≡ with_trace t n → t ≡ t' → k'' ≡ k' → length n.traces < 16 → with_queue n.queue (undone t' k') ≡ with_queue n.queue k → restored n' k'' ≡ restored n k
 leg_back n n' t t' k k' k'' en et ek lt e =
     ap (λ m. restored m k'') en ∙ (ap (λ s. restored (with_trace s n) k'') et ∙ (ap (restored (with_trace t' n)) ek ∙ leg_restored n t' k k' lt e))
-
--- one leg more is one leg more
-pub leg_more : (n n' : Noted) (t : Trace) → n' ≡ with_trace t n → length n.traces < 16 → length n'.traces ≡ length n.traces + 1
-leg_more n n' t e lt =
-    let room = lt-ltb (length n.traces) 16 lt in
-    ap (λ m. length m.traces) (e ∙ cond-true (ltb (length n.traces) 16) _ _ room) ∙ length_push n.traces t
 
 -- the latest leg is taken from the notes and put back
 pub latest_back : (n n' : Noted) (t : Trace) (k k' : Books) → n.traces ≡ n'.traces ++ (t ∷ []) → n'.queue ≡ n.queue → k' ≡ undone t k → restored n' k' ≡ restored n k

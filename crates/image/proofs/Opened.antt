@@ -1,5 +1,5 @@
 -- An opening keeps the image.
-use Rattle.std.proofs.Common.{◌≡◌, ℕ, ◌+◌, ◌<◌, Bool, true, false, cond, ltb, List, [], ◌∷◌, ◌++◌, map, length, None, refl, ap, ◌∙◌, arith}
+use Rattle.std.proofs.Common.{◌≡◌, ℕ, ◌<◌, Bool, true, cond, ltb, List, [], ◌∷◌, ◌++◌, map, length, None, refl, ap, ◌∙◌, arith}
 use Rattle.std.proofs.lemmas.List.{length-map}
 use Rattle.std.proofs.lemmas.Bool.{leb-false, lt-ltb, cond-true}
 use Rattle.meaning.specs.declared.opening.Opening.{Opening}
@@ -9,23 +9,16 @@ use Rattle.meaning.specs.Rules.{Policy, opening_checks, opening_refused, opening
 use Rattle.meaning.specs.Questions.{standing}
 use Rattle.ordered.specs.Orders.{line_before}
 use Rattle.ordered.specs.Keyed.{line_of}
+use Rattle.ordered.proofs.Orderly.{length-put}
 use Rattle.balances.specs.Books.{opened_with}
 use Rattle.laws.proofs.Passes.{all_pass}
 use Rattle.image.specs.Image.{image_of}
 use Rattle.image.proofs.Oldest.{length-oldest}
 
 module _ {K : Type 0} (before : K → K → Bool) where
-  length-put : (k : K) (ks : List K) → length (put before k ks) ≡ length ks + 1
-  length-put k [] = refl
-  length-put k (j ∷ ks) = go (before k j) (length-put k ks)
-    where
-      go : (b : Bool) → length (put before k ks) ≡ length ks + 1 → length (cond b (k ∷ (j ∷ ks)) (j ∷ put before k ks)) ≡ length (j ∷ ks) + 1
-      go true ih = omega arith
-      go false ih = omega arith
-
   pub length-in_order : (ks : List K) → length (in_order before ks) ≡ length ks
   length-in_order [] = refl
-  length-in_order (k ∷ ks) = omega (arith, length-put k (in_order before ks), length-in_order ks)
+  length-in_order (k ∷ ks) = omega (arith, length-put before k (in_order before ks), length-in_order ks)
 
 room_left : (policy : Policy) (J : Journal) (full : Bool) (A : Opening) → opening_refused policy J full A ≡ None → length (accounts J) < 64
 room_left policy J full A e = leb-false 64 (length (accounts J)) (all_pass (opening_checks policy J full A) e).1.1.1.1.0

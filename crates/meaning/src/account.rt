@@ -1,4 +1,5 @@
-// An account, as it stands in the table and as a question is answered.
+// An account, as it stands in the table and as a question is answered. What an opening asks for has a label that may be
+// malformed, and no totals yet.
 ghost use Rattle.std.specs.Prelude.{◌≡◌};
 ghost use Rattle.meaning.specs.Rows.{standing_of, debited, credited, debit_released, credit_released};
 

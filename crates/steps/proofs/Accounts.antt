@@ -1,6 +1,6 @@
 -- What the tables say of an account that is to be opened is what the journal says.
-use Rattle.std.proofs.Common.{◌≡◌, ℕ, ◌^◌, ◌≤◌, Bool, true, false, not, ◌||◌, eqb, ltb, leb, List, [], ◌∷◌, length, Some, None, Option, sym, refl, ap, ◌∙◌, arith}
-use Rattle.std.specs.Option.{option_map}
+use Rattle.std.proofs.Common.{◌≡◌, ℕ, ◌^◌, ◌≤◌, Bool, true, false, not, ◌||◌, eqb, ltb, leb, List, [], ◌∷◌, length, Some, None, Option, Ok, sym, refl, ap, ◌∙◌, arith}
+use Rattle.std.specs.Option.{option_map, ok_or}
 use Rattle.std.proofs.lemmas.Bool.{le-leb, lt-ltb, and_from}
 use Rattle.meaning.specs.declared.label.Label.{Label}
 use Rattle.meaning.specs.declared.opening.Opening.{Opening}
@@ -57,13 +57,7 @@ module _ (policy : Policy) (J : Journal) (full : Bool) (A : Opening) where
 
   -- where place and ledger pass, the first of the other tests that fails
   module _ (placed : None ≡ place_refused J A.number A.ledger) where
-    pub limit_stops : ltb top A.limit ≡ true → opening_refused policy J full A ≡ Some Limit
-    limit_stops l = place_first None placed ∙ rw l
-
     module _ (l : ltb top A.limit ≡ false) where
-      pub label_stops : is_label A.label ≡ false → opening_refused policy J full A ≡ Some LabelMalformed
-      label_stops b = place_first None placed ∙ rw (l, b)
-
       module _ (b : is_label A.label ≡ true) where
         pub count_stops : leb 64 (length (accounts J)) ≡ true → opening_refused policy J full A ≡ Some AccountsFull
         count_stops n = place_first None placed ∙ rw (l, b, n)
@@ -75,20 +69,13 @@ module _ (policy : Policy) (J : Journal) (full : Bool) (A : Opening) where
           pub zeros_last : full ≡ false → opening_refused policy J full A ≡ zeros_refused policy A.class A.limit
           zeros_last f = place_first None placed ∙ rw (l, b, n, f)
 
--- a label is made of a number that is one, and of no other
-pub label_made : (n : ℕ) (b : Label) → Some b ≡ label_of n → (is_label n ≡ true) × (b.code ≡ n)
-label_made n b e = go (is_label n) (λ ok. record { code = n; ok = ok }) (λ ok. refl) e
+-- a label is made of a number that is one
+pub label_made : (n : ℕ) (b : Label) (o : Option Label) → o ≡ label_of n → Ok b ≡ ok_or o LabelMalformed → (is_label n ≡ true) × (b.code ≡ n)
+label_made n b o e made = go (is_label n) (λ ok. record { code = n; ok = ok }) (λ ok. refl) (made ∙ ap (λ (x : Option Label). ok_or x LabelMalformed) e)
   where
-    go : (t : Bool) (f : t ≡ true → Label) → ((p : t ≡ true) → (f p).code ≡ n) → Some b ≡ only t f → (t ≡ true) × (b.code ≡ n)
+    go : (t : Bool) (f : t ≡ true → Label) → ((p : t ≡ true) → (f p).code ≡ n) → Ok b ≡ ok_or (only t f) LabelMalformed → (t ≡ true) × (b.code ≡ n)
     go true f c q = let w : b ≡ f refl = cc in (refl, ap (λ (x : Label). x.code) w ∙ c refl)
     go false f c q = absurd (let z : ◌≡◌ {A = ℕ} 0 1 = cc in omega arith)
-
-pub label_not_made : (n : ℕ) → None ≡ label_of n → is_label n ≡ false
-label_not_made n e = go (is_label n) (λ ok. record { code = n; ok = ok }) e
-  where
-    go : (t : Bool) (f : t ≡ true → Label) → None ≡ only t f → t ≡ false
-    go true f q = absurd (let z : ◌≡◌ {A = ℕ} 0 1 = cc in omega arith)
-    go false f q = refl
 
 -- nothing goes through an account before it is opened
 pub stands_at_zero : (policy : Policy) (J : Journal) (T : ℕ) → Reads policy J → (A : Opening) → the_account J A.number ≡ None → at_zero A ≡ standing J T A

@@ -1,11 +1,11 @@
 -- Partway through a batch: the chains so far, and the chain that is open.
-use Rattle.std.proofs.Common.{◌≡◌, ℕ, suc, ◌+◌, ◌-◌, ◌<◌, ◌≤◌, true, false, List, [], ◌∷◌, ◌++◌, length, get_or, take, drop, set, replicate, Some, None, Ok, Err, sym, refl, ap, ◌∙◌, subst, arith, length-set, take-append-drop}
+use Rattle.std.proofs.Common.{◌≡◌, ℕ, suc, ◌+◌, ◌-◌, ◌<◌, ◌≤◌, true, false, List, [], ◌∷◌, ◌++◌, length, get_or, take, drop, set, replicate, None, Ok, Err, sym, refl, ap, ◌∙◌, subst, arith, length-set, take-append-drop}
 use borrow.Rule.Slice.PartMut.{put_mid}
 use Rattle.std.specs.List.{AllByRecursion as All}
 use Rattle.std.proofs.ByRecursion.{All-more}
 use Rattle.std.proofs.lemmas.List.{get_or-drop, drop-drop, length-drop, length-take-le, length-append, length-replicate, take_all, append_assoc, append-nil}
 use Rattle.std.proofs.lemmas.Slice.{take-put_mid, drop-put_mid}
-use Rattle.std.proofs.lemmas.Bool.{le-ltb, lt-ltb}
+use Rattle.std.proofs.lemmas.Bool.{le-ltb}
 use Rattle.meaning.specs.declared.order.Order.{Order}
 use Rattle.meaning.specs.declared.record.Record.{Record}
 use Rattle.meaning.specs.declared.refusal.Refusal.TheVariants.{ChainRefused, ChainUnfinished, AnswersTooShort}
@@ -20,7 +20,7 @@ use Rattle.steps.specs.Chained.{Tied, Chained, Batched}
 use Rattle.steps.specs.Written.{journal_of, Wrote}
 use Rattle.steps.proofs.Outcomes.{none_taken, still_none}
 use Rattle.steps.proofs.Splits.{Linked, chains_split, one_chain, all_unfinished}
-use Rattle.steps.proofs.Writes.{wrote_none, wrote_then}
+use Rattle.steps.proofs.Writes.{wrote_then}
 
 abbrev pub outcome : List Answer → List Record → Outcome
 outcome ans new = record { answers = ans; entries = new }
@@ -48,9 +48,6 @@ module _ {J : Type 0} (j : journal.Ghosts J) (policy : Policy) (T : ℕ) (x : J)
     pub out : whole ≡ and_then (outcome (take start ans) new) (left y start)
     pub count : n ≡ sum_of is_taken (take start ans)
     pub rest : drop start ans ≡ drop start ans0
-
-  pub partway_none : (b : Balances) → Tied j policy T b x → Partway 0 0 0 ans0 b x
-  partway_none b t = record { new = []; tied = t; wrote = wrote_none j x; marked = tt; out = refl; count = refl; rest = refl }
 
   module _ (start i n : ℕ) (ans : List Answer) (b : Balances) (y : J) (d : Order) (le : start ≤ i) (lt : i < length os) (W : Partway start i n ans b y) where
     here : get_or (drop start os) (i - start) d ≡ get_or os i d
@@ -184,14 +181,3 @@ module _ {J : Type 0} (j : journal.Ghosts J) (policy : Policy) (T : ℕ) (x : J)
       (subst (λ v. Partway j policy T x os ans0 s i n v b' y') (sym ea)
       (subst (λ v. Partway j policy T x os ans0 s i n ans v y') (sym eb)
       (subst (λ v. Partway j policy T x os ans0 s i n ans b v) (sym ey) W))))
-
-  -- a list of answers that is too short
-  pub batch-refused : (out : Outcome) (b : Balances) → Tied j policy T b x → length ans0 < length os → Batched j policy T x out os ans0 (Err AnswersTooShort) ans0 b x
-  batch-refused out b t lt =
-      let r : batch_refused os (length ans0) ≡ Some AnswersTooShort = ap (λ v. first_of ((v, AnswersTooShort) ∷ [])) (lt-ltb (length ans0) (length os) lt) in
-      record {
-        answer = sym (ap (λ o. answered o (taken out)) r);
-        answers = sym (ap (λ o. unless o (over out.answers ans0) ans0) r);
-        wrote = subst (λ w. Wrote j x w x) (sym (ap (λ o. unless o out.entries []) r)) (wrote_none j x);
-        tied = t;
-      }

@@ -1,5 +1,5 @@
 -- What a leg that no rule refuses writes down keeps the rules of an entry.
-use Rattle.std.proofs.Common.{◌≡◌, ℕ, ◌+◌, ◌^◌, ◌<◌, ◌≤◌, Bool, true, false, cond, ◌&&◌, ◌||◌, eqb, ltb, leb, [], ◌∷◌, Some, None, sym, refl, ap, ◌∙◌, arith}
+use Rattle.std.proofs.Common.{◌≡◌, ℕ, ◌^◌, ◌<◌, ◌≤◌, Bool, true, false, ◌&&◌, ◌||◌, eqb, ltb, leb, [], ◌∷◌, Some, None, sym, ap, ◌∙◌, arith}
 use Rattle.std.specs.List.{AllByRecursion as All}
 use Rattle.std.proofs.lemmas.Bool.{le-leb, lt-ltb, and_from}
 use Rattle.meaning.specs.declared.content.Content.{Content}
@@ -8,7 +8,7 @@ use Rattle.meaning.specs.declared.opening.Opening.{Opening}
 use Rattle.meaning.specs.declared.refusal.Refusal.TheVariants.{PostAmount}
 use Rattle.meaning.specs.Basics.{first_of}
 use Rattle.meaning.specs.Given.{Journal, Reserved, accounts, reservations, the_account, the_reservation, due, fate}
-use Rattle.meaning.specs.Rules.{Policy, number_refused, amount_refused, parties_refused, fate_refused, post_refused, deadline, refused}
+use Rattle.meaning.specs.Rules.{Policy, number_refused, amount_refused, parties_refused, fate_refused, post_refused, refused}
 use Rattle.meaning.specs.Sound.{top, last, is_number, is_amount, is_until, content_sound, sound}
 use Rattle.laws.specs.Steps.{Reads}
 use Rattle.laws.proofs.Finds.{find_all, find_key}
@@ -47,15 +47,7 @@ is_number_lem n lo hi = and_from (leb 1 n) (ltb n (2 ^ 32)) (le-leb 1 n lo) (lt-
 is_amount_lem : (z : ℕ) → 0 < z → z ≤ top → is_amount z ≡ true
 is_amount_lem z lo hi = and_from (leb 1 z) (leb z top) (le-leb 1 z lo) (le-leb z top hi)
 
--- a deadline that a duration sets
-pub is_until_lem : (T duration : ℕ) → duration < 2 ^ 32 → is_until T (deadline T duration) ≡ true
-is_until_lem T d hi = go (eqb d 0) refl
-  where
-    go : (b : Bool) → eqb d 0 ≡ b → is_until T (cond b 0 (T + d)) ≡ true
-    go true e = refl
-    go false e = grind arith
-
--- which is not due when it is set
+-- a reservation is not due when it is set
 pub not_due : (T u : ℕ) → is_until T u ≡ true → due u T ≡ false
 not_due T u e = grind arith
 

@@ -56,9 +56,7 @@ fn check_opening<P: Policy>(
     if opening.limit > TOP {
         return Err(Refusal::Limit);
     }
-    let Some(label) = Label::new(opening.label) else {
-        return Err(Refusal::LabelMalformed);
-    };
+    let label = Label::new(opening.label).ok_or(Refusal::LabelMalformed)?;
     if balances.opened() >= ACCOUNTS {
         return Err(Refusal::AccountsFull);
     }

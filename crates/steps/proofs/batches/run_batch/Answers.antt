@@ -5,20 +5,13 @@ use Rattle.meaning.specs.declared.order.Action.TheVariants.{Transfer}
 use Rattle.meaning.specs.declared.refusal.Refusal.TheVariants.{ChainRefused, ChainUnfinished}
 use Rattle.meaning.specs.Batches.{unfinished}
 use Rattle.laws.specs.Steps.{Fronted}
-use Rattle.steps.proofs.Partway.{partway_none, partway_mark, partway_chain, partway_all, partway_same, batch-refused}
+use Rattle.steps.proofs.Partway.{partway_mark, partway_chain, partway_all, partway_same}
 use Rattle.steps.proofs.Splits.{front_fronted, front_finished}
 use Rattle.steps.proofs.batches.run_batch.Goals as goal
 use Rattle.steps.proofs.batches.run_batch.Goals.{then-not-order, else-not-order}
 
 abbrev none : Order
 none = record { number = 0; linked = false; action = Transfer 0 0 0 }
-
-pub returns-then-answers-orders : goal.returns-then-answers-orders
-returns-then-answers-orders g c = λ tied.
-    batch-refused g.J.Journal (g.P.Policy.admits c.args.policy.now) c.args.moment c.args.journal.now c.args.orders.now c.args.answers.now _ c.args.balances.now tied c.if-answers-orders.true
-
-pub loop-i-init : goal.loop-i-init
-loop-i-init g c = (omega arith, omega arith, (λ tied. partway_none g.J.Journal (g.P.Policy.admits c.args.policy.now) c.args.moment c.args.journal.now c.args.orders.now c.args.answers.now c.args.balances.now tied))
 
 pub loop-i-preserved : goal.loop-i-preserved
 loop-i-preserved g c =

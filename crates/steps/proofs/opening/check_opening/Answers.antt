@@ -1,10 +1,10 @@
 use Rattle.std.proofs.Common.{Some, sym, ap, ◌∙◌, arith}
 use Rattle.std.proofs.lemmas.Result.{err_from_is_err_and, IfOk-from_err}
-use Rattle.std.proofs.lemmas.Bool.{lt-ltb, le-ltb, le-leb, lt-leb, eq-eqb, ne_eqb}
+use Rattle.std.proofs.lemmas.Bool.{le-ltb, le-leb, lt-leb, eq-eqb, ne_eqb}
 use Rattle.meaning.specs.Sound.{top}
 use Rattle.balances.specs.Books.{books_of}
 use Rattle.balances.specs.Judged.{refusal_in}
-use Rattle.steps.proofs.Accounts.{opened_count, place_first, limit_stops, label_stops, count_stops, spare_stops, zeros_last, label_made, label_not_made}
+use Rattle.steps.proofs.Accounts.{opened_count, place_first, count_stops, spare_stops, zeros_last, label_made}
 use Rattle.steps.proofs.opening.check_opening.Goals as goal
 
 pub returns-in_err-check_place : goal.returns-in_err-check_place
@@ -19,33 +19,13 @@ returns-in_err-check_place g c =
       narrow = IfOk-from_err r _ c.from_residual.ensures.0;
     }
 
-pub returns-then-opening-gt-TOP : goal.returns-then-opening-gt-TOP
-returns-then-opening-gt-TOP g c = record {
-  answer = λ J T shown.
-      let policy = g.P.Policy.admits c.args.policy.now in
-      let A = c.args.opening.now in
-      sym (limit_stops policy J _ A (c.in_ok-check_place.ensures.answer policy J T shown) (lt-ltb top A.limit c.if-opening-gt-TOP.true));
-  account = tt;
-  narrow = tt;
-}
-
-pub returns-in_default : goal.returns-in_default
-returns-in_default g c = record {
-  answer = λ J T shown.
-      let policy = g.P.Policy.admits c.args.policy.now in
-      let A = c.args.opening.now in
-      sym (label_stops policy J _ A (c.in_ok-check_place.ensures.answer policy J T shown) (le-ltb top A.limit c.if-opening-gt-TOP.false) (label_not_made A.label c.in_default.ensures));
-  account = tt;
-  narrow = tt;
-}
-
 pub returns-then-opened-ge-ACCOUNTS : goal.returns-then-opened-ge-ACCOUNTS
 returns-then-opened-ge-ACCOUNTS g c = record {
   answer = λ J T shown.
       let policy = g.P.Policy.admits c.args.policy.now in
       let A = c.args.opening.now in
       let count = opened_count policy J T shown.reads (books_of c.args.balances.now) shown.tables in
-      sym (count_stops policy J _ A (c.in_ok-check_place.ensures.answer policy J T shown) (le-ltb top A.limit c.if-opening-gt-TOP.false) (label_made A.label c.in-Some.label c.in-Some.ensures).0 (le-leb 64 _ (omega (arith, c.opened.ensures))));
+      sym (count_stops policy J _ A (c.in_ok-check_place.ensures.answer policy J T shown) (le-ltb top A.limit c.if-opening-gt-TOP.false) (label_made A.label c.in_ok-label.label c.new.result c.new.ensures c.in_ok-label.ensures.value).0 (le-leb 64 _ (omega (arith, c.opened.ensures))));
   account = tt;
   narrow = tt;
 }
@@ -56,7 +36,7 @@ returns-then-spare-eq0 g c = record {
       let policy = g.P.Policy.admits c.args.policy.now in
       let A = c.args.opening.now in
       let count = opened_count policy J T shown.reads (books_of c.args.balances.now) shown.tables in
-      sym (spare_stops policy J _ A (c.in_ok-check_place.ensures.answer policy J T shown) (le-ltb top A.limit c.if-opening-gt-TOP.false) (label_made A.label c.in-Some.label c.in-Some.ensures).0 (lt-leb 64 _ (omega (arith, c.opened.ensures))) (eq-eqb c.args.spare 0 c.if-spare-eq0.true));
+      sym (spare_stops policy J _ A (c.in_ok-check_place.ensures.answer policy J T shown) (le-ltb top A.limit c.if-opening-gt-TOP.false) (label_made A.label c.in_ok-label.label c.new.result c.new.ensures c.in_ok-label.ensures.value).0 (lt-leb 64 _ (omega (arith, c.opened.ensures))) (eq-eqb c.args.spare 0 c.if-spare-eq0.true));
   account = tt;
   narrow = tt;
 }
@@ -71,7 +51,7 @@ returns-in_err-check_zeros g c =
           let A = c.args.opening.now in
           let count = opened_count policy J T shown.reads (books_of c.args.balances.now) shown.tables in
           ap refusal_in p.1 ∙ (ap Some p.2 ∙ (c.in_err-check_zeros.ensures.answer
-          ∙ sym (zeros_last policy J _ A (c.in_ok-check_place.ensures.answer policy J T shown) (le-ltb top A.limit c.if-opening-gt-TOP.false) (label_made A.label c.in-Some.label c.in-Some.ensures).0 (lt-leb 64 _ (omega (arith, c.opened.ensures))) (ne_eqb c.args.spare 0 c.if-spare-eq0.false))));
+          ∙ sym (zeros_last policy J _ A (c.in_ok-check_place.ensures.answer policy J T shown) (le-ltb top A.limit c.if-opening-gt-TOP.false) (label_made A.label c.in_ok-label.label c.new.result c.new.ensures c.in_ok-label.ensures.value).0 (lt-leb 64 _ (omega (arith, c.opened.ensures))) (ne_eqb c.args.spare 0 c.if-spare-eq0.false))));
       account = IfOk-from_err r _ c.from_residual-in_err-check_zeros.ensures.0;
       narrow = IfOk-from_err r _ c.from_residual-in_err-check_zeros.ensures.0;
     }
@@ -79,7 +59,7 @@ returns-in_err-check_zeros g c =
 pub returns : goal.returns
 returns g c =
     let A = c.args.opening.now in
-    let label = label_made A.label c.in-Some.label c.in-Some.ensures in
+    let label = label_made A.label c.in_ok-label.label c.new.result c.new.ensures c.in_ok-label.ensures.value in
     let zero = c.zero.ensures in
     record {
       answer = λ J T shown.

@@ -1,7 +1,7 @@
 use Rattle.std.proofs.Common.{length, ap, ◌∙◌}
 use Rattle.balances.specs.Books.{books_of}
 use Rattle.balances.specs.Legs.{tracing}
-use Rattle.balances.proofs.Undoing.{leg_back, leg_more, reserve_back}
+use Rattle.balances.proofs.Undoing.{leg_back, reserve_back}
 use Rattle.balances.proofs.balances.Balances.reserve.Goals as goal
 
 pub returns-clause-back : goal.returns-clause-back
@@ -10,6 +10,3 @@ returns-clause-back c =
     let R = c.args.held in
     let traced = c.trace.ensures ∙ ap (λ i. tracing R.debit R.credit i k) c.reserved-slot.ensures in
     λ room. leg_back c.args.self.now.notes _ _ (tracing R.debit R.credit (length k.held) k) k _ _ c.note.ensures traced c.reserve.ensures room (reserve_back k _ R)
-
-pub returns-clause-legs : goal.returns-clause-legs
-returns-clause-legs c = λ room. leg_more c.args.self.now.notes _ _ c.note.ensures room
