@@ -1,1 +1,3 @@
 pub mod Memories
+pub mod Starting
+pub mod TakesOver

@@ -1,5 +1,5 @@
 -- What a book begins with that is made of a memory's bytes, and what that memory holds when records have joined.
-use Rattle.std.specs.Prelude.{ℕ, ◌+◌, List, length}
+use Rattle.std.specs.Prelude.{ℕ, List, length}
 use Rattle.meaning.specs.declared.record.Record.{Record}
 use Rattle.meaning.specs.Calls.{State}
 use Rattle.meaning.specs.Reading.{reading as reading_of}

@@ -2,3 +2,4 @@
 #![tactic(auto)]
 
 pub mod rounds;
+pub mod standby;

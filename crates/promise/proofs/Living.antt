@@ -34,6 +34,7 @@ pub record Lived {J P : Type 0} (j : journal.Ghosts J) (p : policy.Ghosts P) (ad
   pub is_told : world_of j p A2 mine' ≡ final admits os (with_desk (final admits os (with_desk (beginning j admits x) before) past).state mine) further
   pub wrote_past : Wrote j x (adds_all admits os (with_desk (beginning j admits x) before) past) A1.journal
   pub wrote_further : Wrote j A1.journal (adds_all admits os (with_desk (final admits os (with_desk (beginning j admits x) before) past).state mine) further) A2.journal
+  pub policy_end : policy_of j p A2 ≡ admits
   pub reading_end : A2.reading ≡ reading_of admits (journal_of j x)
   pub mid_through : reading_of admits (journal_of j x) ≡ Ok tt → reading_of admits (journal_of j A1.journal) ≡ Ok tt
   pub mid_arrives : reading_of admits (journal_of j x) ≡ Ok tt → move_refused (journal_of j A1.journal) (latest (journal_of j A1.journal)) A1.moment 256 ≡ None
@@ -98,4 +99,4 @@ module _ {J P : Type 0} (j : journal.Ghosts J) (p : policy.Ghosts P) (os : List 
       arrives admits (journal_of j A1.journal) (not_stopped (read_so_far admits (journal_of j A1.journal)) _ (through_mid h)).0 (latest (journal_of j A1.journal)) A1.moment R.runs.in_time R.runs.bounded
 
   pub lived : Lived j p admits os x past further before mine before' mine' A1 A2
-  lived = record { mid = state_mid; was_told = told_was; is_told = told_is; wrote_past = past_wrote; wrote_further = further_wrote; reading_end = end_reading; mid_through = through_mid; mid_arrives = arrives_mid }
+  lived = record { mid = state_mid; was_told = told_was; is_told = told_is; wrote_past = past_wrote; wrote_further = further_wrote; policy_end = ap p.admits two.policy ∙ policy_mid; reading_end = end_reading; mid_through = through_mid; mid_arrives = arrives_mid }

@@ -31,7 +31,8 @@ wrote_alike {new = new} u v e = v.entries ∙ (ap (λ es. es ++ entries_of new) 
 
 -- what is known of it in the end, over its journal x
 pub record Took {K Q : Type 0} (k : journal.Ghosts K) (q : policy.Ghosts Q) (admits : Policy) (from : State) (x : K) (os : List Order) (further : List Call) (mine theirs' : Desk) (B2 : Book K Q k q) : Type 0 where
-  pub reads_through : reading_of admits (journal_of k x) ≡ Ok tt
+  pub policy_end : policy_of k q B2 ≡ admits
+  pub move_goes : move_refused (journal_of k x) (latest (journal_of k x)) from.moment 256 ≡ None
   pub ended : world_of k q B2 theirs' ≡ final admits os (with_desk from mine) further
   pub wrote_all : Wrote k x (adds_all admits os (with_desk from mine) further) B2.journal
   pub still_through : B2.reading ≡ Ok tt
@@ -93,4 +94,4 @@ module _ {K Q : Type 0} (k : journal.Ghosts K) (q : policy.Ghosts Q) (admits : P
   end_through = three.reading ∙ (went.after.reading ∙ reading-first)
 
   pub took : Took k q admits from x os further mine theirs' B2
-  took = record { reads_through = through_x; ended = end_world; wrote_all = all_wrote; still_through = end_through }
+  took = record { policy_end = ap q.admits three.policy ∙ policy_moved; move_goes = ap (λ J. move_refused J (latest J) from.moment 256) list ∙ arrives; ended = end_world; wrote_all = all_wrote; still_through = end_through }

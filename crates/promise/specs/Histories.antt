@@ -12,7 +12,7 @@ use Rattle.policy.specs.declared.policy.Policy as policy
 use Rattle.steps.specs.Written.{journal_of, entries_of, Wrote}
 use Rattle.reading.specs.Stands.{start_of}
 use Rattle.book.specs.declared.book.Book.{Book}
-use Rattle.book.specs.States.{state_of}
+use Rattle.book.specs.States.{policy_of, state_of}
 use Rattle.promise.specs.declared.call.Call.{Call}
 use Rattle.promise.specs.declared.desk.Desk.{Desk}
 use Rattle.promise.specs.Kept.{Keeps}
@@ -36,9 +36,11 @@ beginning j admits x = record { journal = journal_of j x; moment = start_of (rea
 module _ {J P K Q : Type 0} (j : journal.Ghosts J) (p : policy.Ghosts P) (k : journal.Ghosts K) (q : policy.Ghosts Q) where
   -- the second book against the first, after the same further calls: from is what the first had come to before them
   pub record Twin (admits : Policy) (from : State) (new : List Record) (mine theirs : Desk) (x' : K) (b : Book J P j p) (b' : Book K Q k q) : Type 0 where
-    -- its journal is read through, and with 256 places for lapses the move to the first book's moment is not refused
-    pub through : reading_of admits (journal_of k x') ≡ Ok tt
-    pub arrives : move_refused from.journal (latest from.journal) from.moment 256 ≡ None
+    -- its policy is the same, its journal was read through, and with 256 places for lapses the move to the first book's
+    -- moment was not refused
+    pub policy : policy_of k q b' ≡ admits
+    pub through : b'.reading ≡ Ok tt
+    pub arrives : move_refused (journal_of k x') (latest (journal_of k x')) from.moment 256 ≡ None
     -- what its caller is told, its answers, lapses and bytes are the same
     pub alike : Alike mine theirs
     -- and so are entries, spare and moment
@@ -70,6 +72,8 @@ module _ {J P K Q : Type 0} (j : journal.Ghosts J) (p : policy.Ghosts P) (k : jo
       pub past_told : with_desk then_was.state before' ≡ then_was
       pub first_told : with_desk (state_of j p b) mine' ≡ then_is
       pub wrote : Wrote j x (old ++ new) b.journal
+      pub policy : policy_of j p b ≡ admits
+      pub reading : b.reading ≡ reading_of admits (journal_of j x)
       -- the one assumption: the journal was read through
       pub keeps : reading_of admits (journal_of j x) ≡ Ok tt → Keeps j p b
       -- a second book of the same policy, over a journal of any kind with the same list and spare

@@ -4,6 +4,7 @@ ghost use Rattle.std.specs.Prelude.{◌≡◌, slice_set};
 use crate::told::Told;
 use meaning::Answer;
 
+#[derive(Drop)]
 pub struct Desk<'a> {
     pub told: &'a mut [Told],
     pub answers: &'a mut [Answer],

@@ -39,6 +39,8 @@ returns g c =
       past_told = L.was_told;
       first_told = L.is_told;
       wrote = wrote_then j a.journal A1.journal A2.journal _ _ L.wrote_past L.wrote_further;
+      policy = L.policy_end;
+      reading = L.reading_end;
       keeps = λ through. keeps_all j p A2 (g.met.P.Policy.lawful A2.policy) (L.reading_end ∙ through);
       twin = λ through same entries spare alike.
           let J = ap (λ (s : State). s.journal) L.mid in
@@ -48,8 +50,9 @@ returns g c =
           let S = took k q admits _ a.other a.other_policy B B1 B2 os a.further.now a.mine.now a.theirs.now theirs' c.moment.result _ _ _ twin went three same list spare refl (c.moment.ensures ∙ ap (λ (s : State). s.moment) L.mid) (ap (reading_of admits) (sym J) ∙ L.mid_through through) arrives alike in
           let equal = S.ended ∙ sym L.is_told in
           record {
-            through = S.reads_through;
-            arrives = arrives;
+            policy = S.policy_end;
+            through = S.still_through;
+            arrives = S.move_goes;
             alike = record { told = ap (λ (w : World). w.told) equal; answers = ap (λ (w : World). w.answers) equal; lapses = ap (λ (w : World). w.lapses) equal; bytes = ap (λ (w : World). w.bytes) equal };
             entries = wrote_alike L.wrote_further S.wrote_all (entries ∙ sym L.wrote_past.entries);
             spare = ap (λ (w : World). w.state.spare) equal;

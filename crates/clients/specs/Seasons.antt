@@ -1,0 +1,25 @@
+-- A season from nothing on: its policy, and the desk of its past.
+use Rattle.std.specs.Prelude.{List, [], replicate, Ok}
+use Rattle.meaning.specs.declared.order.Order.{Order}
+use Rattle.meaning.specs.Calls.{State}
+use Rattle.meaning.specs.Policies.{open_to_all, floor, ceiling, by_class}
+use Rattle.meaning.specs.Rules.{Policy}
+use Rattle.promise.specs.declared.call.Call.{Call}
+use Rattle.promise.specs.declared.told.Told.TheVariants.{Nothing}
+use Rattle.promise.specs.Worlds.{World, final}
+
+abbrev pub season : Policy
+season = by_class 2 open_to_all (by_class 3 floor ceiling)
+
+abbrev pub before_all : World
+before_all = record {
+  state = record { journal = []; moment = 0; spare = 256 };
+  told = replicate 16 Nothing;
+  answers = replicate 64 (Ok tt);
+  lapses = replicate 256 0;
+  bytes = replicate 4096 0;
+}
+
+-- what the rules make of a past
+abbrev pub then_was : List Order → List Call → State
+then_was os past = (final season os before_all past).state

@@ -1,0 +1,90 @@
+// A standby book takes over from another, over another kind of journal. Nothing is assumed of past and further calls.
+ghost use Rattle.std.specs.Prelude.{◌≡◌};
+ghost use Rattle.journal.specs.declared.mirror.Mirror.{Mirror as Mirrored};
+ghost use Rattle.journal.specs.declared.roll.Roll.{Roll as Rolled};
+ghost use Rattle.steps.specs.Written.{entries_of};
+ghost use Rattle.promise.specs.Histories.{with_desk, Alike, Twin};
+ghost use Rattle.promise.specs.Worlds.{final, adds_all};
+ghost use Rattle.clients.specs.Seasons.{season, before_all, then_was};
+
+use book::Book;
+use journal::{Journal, Mirror, Roll};
+use meaning::Order;
+use policy::{ByClass, Ceiling, Floor, Open, Policy};
+use promise::histories::history;
+use promise::runs::run_calls;
+use promise::{Call, Desk, Told};
+
+// Each policy decides for some classes.
+pub type Season = ByClass<Open, ByClass<Floor, Ceiling>>;
+
+fn season() -> Season
+    ensures { ⟦<Season as Policy>⟧.admits result ≡ season }
+{
+    ByClass {
+        below: Open,
+        class: 2,
+        from: ByClass {
+            below: Floor,
+            class: 3,
+            from: Ceiling,
+        },
+    }
+}
+
+// Makes a past on a book of its own, from nothing on; the two rolls that it wrote.
+fn written(past: &[Call], orders: &[Order]) -> Mirror<Roll, Roll>
+    ensures entries { ⟦<Mirror<Roll, Roll> as Journal>⟧.entries result ≡ entries_of (adds_all season orders.now before_all past.now) }
+    ensures spare { ⟦<Mirror<Roll, Roll> as Journal>⟧.spare result ≡ (then_was orders.now past.now).spare }
+{
+    let mut told = [Told::Nothing; 16];
+    let mut answers = [Ok(()); 64];
+    let mut lapses = [0; 256];
+    let mut bytes = [0; 4096];
+    let mut desk = Desk {
+        told: &mut told,
+        answers: &mut answers,
+        lapses: &mut lapses,
+        bytes: &mut bytes,
+    };
+    let mut book = Book::create(Mirror::new(Roll::new(), Roll::new()), season());
+    run_calls(&mut book, past, orders, &mut desk);
+    let (journal, _) = book.close();
+    journal
+}
+
+// Makes the past on a first book, over one roll. A second book takes over from what the past has written into two, and
+// every further call is made on both. Where the desks are alike, so is all that follows.
+pub fn hand_over(
+    past: &[Call],
+    further: &[Call],
+    orders: &[Order],
+    mine: &mut Desk<'_>,
+    theirs: &mut Desk<'_>,
+) -> (Book<Roll, Season>, Book<Mirror<Roll, Roll>, Season>)
+    ensures { Alike mine.old theirs.old → (x : Mirrored Rolled Rolled) × Twin ⟦<Roll as Journal>⟧ ⟦<Season as Policy>⟧ ⟦<Mirror<Roll, Roll> as Journal>⟧ ⟦<Season as Policy>⟧ season (then_was orders.now past.now) (adds_all season orders.now (with_desk (then_was orders.now past.now) mine.old) further.now) mine.new theirs.new x result.0 result.1 }
+{
+    let mut told = [Told::Nothing; 16];
+    let mut answers = [Ok(()); 64];
+    let mut lapses = [0; 256];
+    let mut bytes = [0; 4096];
+    let mut before = Desk {
+        told: &mut told,
+        answers: &mut answers,
+        lapses: &mut lapses,
+        bytes: &mut bytes,
+    };
+    let standby = written(past, orders);
+    history(
+        Roll::new(),
+        season(),
+        past,
+        standby,
+        season(),
+        further,
+        orders,
+        &mut before,
+        mine,
+        theirs,
+    )
+}

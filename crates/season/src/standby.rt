@@ -1,0 +1,74 @@
+// The season once more, as calls from values on a book over a roll; then a second book takes over from the strip that the
+// program has written, and every further call is made on both. The contract of `history` says what both are told.
+use crate::plan::{after_the_season, calls, orders, policy, season};
+use crate::told::show_told;
+use journal::{Journal, Roll, Strip};
+use meaning::{Answer, number_of};
+use promise::histories::history;
+use promise::{Desk, Told};
+use std::io;
+
+type Lists = ([Told; 16], [Answer; 16], [u32; 8], [u8; 1024]);
+
+fn new_lists() -> Lists {
+    ([Told::Nothing; 16], [Ok(()); 16], [0; 8], [0; 1024])
+}
+
+fn desk<'a>(
+    told: &'a mut [Told],
+    answers: &'a mut [Answer],
+    lapses: &'a mut [u32],
+    bytes: &'a mut [u8],
+) -> Desk<'a> {
+    Desk {
+        told,
+        answers,
+        lapses,
+        bytes,
+    }
+}
+
+pub fn take_over(rt: &HostRuntime, memory: &mut [u8], used: usize) -> io::Result<()> {
+    let (mut told, mut answers, mut lapses, mut bytes) = new_lists();
+    let (mut my_told, mut my_answers, mut my_lapses, mut my_bytes) = new_lists();
+    let (mut their_told, mut their_answers, mut their_lapses, mut their_bytes) = new_lists();
+    let (first, second) = history(
+        Roll::new(),
+        policy(),
+        &calls(season()),
+        Strip::make(memory, used),
+        policy(),
+        &calls(after_the_season()),
+        &orders(),
+        &mut desk(&mut told, &mut answers, &mut lapses, &mut bytes),
+        &mut desk(&mut my_told, &mut my_answers, &mut my_lapses, &mut my_bytes),
+        &mut desk(
+            &mut their_told,
+            &mut their_answers,
+            &mut their_lapses,
+            &mut their_bytes,
+        ),
+    );
+    println!(rt; "the first book, over a roll, and the second, over the strip:")?;
+    for (one, other) in my_told.iter().zip(their_told.iter()).take(11) {
+        show_told(rt, one)?;
+        show_told(rt, other)?;
+    }
+    show_answers(rt, &my_answers)?;
+    show_answers(rt, &their_answers)?;
+    let lapses = my_lapses == their_lapses;
+    let bytes = my_bytes == their_bytes;
+    println!(rt; "lapses equal: {lapses}, listings equal: {bytes}")?;
+    let ((roll, _), (strip, _)) = (first.close(), second.close());
+    let (entries, others) = (roll.count(), strip.count());
+    println!(rt; "entries: {entries} and {others}")
+}
+
+fn show_answers(rt: &HostRuntime, answers: &[Answer]) -> io::Result<()> {
+    print!(rt; "answers:")?;
+    for answer in answers {
+        let answer = number_of(answer);
+        print!(rt; " {answer}")?;
+    }
+    println!(rt; "")
+}
