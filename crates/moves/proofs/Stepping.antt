@@ -1,6 +1,6 @@
 -- One more lapse, by the turns that are left.
 use Rattle.std.proofs.Common.{◌≡◌, ℕ, suc, ◌+◌, ◌-◌, ◌<◌, ◌≤◌, List, [], ◌∷◌, ◌++◌, length, get_or, take, drop, set, Some, None, Option, refl, ap, append_assoc, arith}
-use Rattle.std.proofs.lemmas.List.{drop_more, drop_all, take_all, append-nil, take_more_set, drop-set-lt}
+use Rattle.std.proofs.lemmas.List.{drop_more, take_more_set, drop-set-lt}
 use Rattle.ordered.specs.declared.due.Due.{Due}
 use Rattle.balances.specs.Books.{Books}
 use Rattle.balances.specs.Lapses.{next_due, lapsed_if, number_in}
@@ -21,13 +21,6 @@ number_more t k xs ys all i h e inv =
     let rest : drop (i + 1) ys ≡ drop (i + 1) xs = rw e (drop-set-lt (i + 1) xs i n (omega arith)) in
     let here = ap (numbered t k) (drop_more xs i 0 h) in
     let join = append_assoc (take i xs) (n ∷ []) (numbered t (lapsed_if (next_due t k) k) (drop (i + 1) xs)) in
-    cc
-
-pub number_all : (t : ℕ) (k : Books) (xs all : List ℕ) (i : ℕ) → length xs ≤ i → take i xs ++ numbered t k (drop i xs) ≡ all → xs ≡ all
-number_all t k xs all i h inv =
-    let rest : numbered t k (drop i xs) ≡ [] = rw (drop_all i xs h) refl in
-    let whole = take_all i xs h in
-    let none = append-nil xs in
     cc
 
 pub number_some : (o : Option Due) (n m : ℕ) → number_in o ≡ Some m → number_or n o ≡ m

@@ -64,7 +64,7 @@ impl<T: Copy, const N: usize> Row<T, N> {
         self.as_slice().get(place).copied()
     }
 
-    // Another item at a place, where there is one.
+    // Another item at a place, where there is one. `get_mut` needs as many lines, and a proof of its own.
     pub fn set(&mut self, place: usize, item: T)
         ensures { self.new ≡ slice_set self.old place item }
     {

@@ -13,7 +13,8 @@ use meaning::{Opening, Order};
 use policy::Policy;
 
 // One function for each call that takes a list or an opening: what they share is `put`, and that the desk's lists stay
-// where they are (`Same`), which relates two states, so no type can say it.
+// where they are (`Same`), which relates two states, so no type can say it. A span is tested before it is used: `get` of
+// a range would need a second name for each list, and the definition of a call that is not made has that test.
 fn ask_open<J: Journal, P: Policy>(
     book: &mut Book<J, P>,
     at: usize,

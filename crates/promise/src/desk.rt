@@ -12,7 +12,7 @@ pub struct Desk<'a> {
     pub bytes: &'a mut [u8],
 }
 
-// Writes what is told at its place, if there is one.
+// Writes what is told at its place, if there is one. `get_mut` needs as many lines.
 pub(crate) fn put(told: &mut [Told], at: usize, what: Told)
     ensures { told.new ≡ slice_set told.old at what }
 {

@@ -1,7 +1,8 @@
 -- What the tables say of an account that is to be opened is what the journal says.
 use Rattle.std.proofs.Common.{◌≡◌, ℕ, ◌^◌, ◌≤◌, Bool, true, false, not, ◌||◌, eqb, ltb, leb, List, [], ◌∷◌, length, Some, None, Option, Ok, sym, refl, ap, ◌∙◌, arith}
-use Rattle.std.specs.Option.{option_map, ok_or}
+use Rattle.std.specs.Option.{option_map, ok_or, is_some}
 use Rattle.std.proofs.lemmas.Bool.{le-leb, lt-ltb, and_from}
+use Rattle.meaning.specs.declared.account.Account.{Account}
 use Rattle.meaning.specs.declared.label.Label.{Label}
 use Rattle.meaning.specs.declared.opening.Opening.{Opening}
 use Rattle.meaning.specs.declared.refusal.Refusal.{Refusal}
@@ -10,7 +11,8 @@ use Rattle.meaning.specs.Basics.{first_of, or_else}
 use Rattle.meaning.specs.Given.{Journal, accounts, the_account, debits, credits, pending, posted, Side}
 use Rattle.meaning.specs.Labels.{is_label}
 use Rattle.meaning.specs.Made.{only, label_of}
-use Rattle.meaning.specs.Questions.{Standing, standing}
+use Rattle.meaning.specs.Questions.{standing}
+use Rattle.meaning.specs.Rows.{standing_of}
 use Rattle.meaning.specs.Rules.{Policy, is_taken, opening_refused, opening_writes}
 use Rattle.meaning.specs.Sound.{top, last, is_number, sound}
 use Rattle.balances.specs.Books.{Books, row_asked}
@@ -25,19 +27,14 @@ module _ (policy : Policy) (J : Journal) (T : ℕ) (h : Reads policy J) (k : Boo
   asked : (n : ℕ) → row_asked k n ≡ option_map (standing J T) (the_account J n)
   asked n = ap (λ b. row_asked b n) is ∙ (asks policy J h T).account n
 
-  pub taken-when : (n : ℕ) (s : Standing) → Some s ≡ row_asked k n → is_taken (the_account J n) ≡ true
-  taken-when n s e = go (the_account J n) (e ∙ asked n)
+  pub taken : (n : ℕ) (a : Option Account) → option_map standing_of a ≡ row_asked k n → is_taken (the_account J n) ≡ is_some a
+  taken n a e = go a (the_account J n) (e ∙ asked n)
     where
-      go : (o : Option Opening) → Some s ≡ option_map (standing J T) o → is_taken o ≡ true
-      go None q = absurd (let z : ◌≡◌ {A = ℕ} 0 1 = cc in omega arith)
-      go (Some A) q = refl
-
-  pub free_when : (n : ℕ) → None ≡ row_asked k n → is_taken (the_account J n) ≡ false
-  free_when n e = go (the_account J n) (e ∙ asked n)
-    where
-      go : (o : Option Opening) → None ≡ option_map (standing J T) o → is_taken o ≡ false
-      go None q = refl
-      go (Some A) q = absurd (let z : ◌≡◌ {A = ℕ} 0 1 = cc in omega arith)
+      go : (a : Option Account) (o : Option Opening) → option_map standing_of a ≡ option_map (standing J T) o → is_taken o ≡ is_some a
+      go None None q = refl
+      go None (Some A) q = absurd (let z : ◌≡◌ {A = ℕ} 0 1 = cc in omega arith)
+      go (Some a) None q = absurd (let z : ◌≡◌ {A = ℕ} 0 1 = cc in omega arith)
+      go (Some a) (Some A) q = refl
 
   pub opened_count : length k.rows ≡ length (accounts J)
   opened_count = ap (λ (b : Books). length b.rows) is ∙ length-oldest (standing J T) (accounts J)

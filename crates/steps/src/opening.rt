@@ -17,10 +17,7 @@ fn check_place(balances: &Balances, number: u32, ledger: u16) -> Result<(), Refu
     ensures answer { (policy : Admission) (J : Journal) (T : ℕ) → Shown policy J T balances.now → refusal_in result ≡ place_refused J number ledger }
     ensures narrow { (number < 2 ^ 32) × (ledger < 2 ^ 16) }
 {
-    if number == 0 {
-        return Err(Refusal::AccountNumber);
-    }
-    if let Some(_) = balances.account(number) {
+    if number == 0 || balances.account(number).is_some() {
         return Err(Refusal::AccountNumber);
     }
     if ledger == 0 {

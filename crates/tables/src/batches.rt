@@ -71,9 +71,7 @@ fn chains(rt: HostRuntime) -> Result<(), Fail> {
         let strip = Strip::make(&mut memory[0..bytes], 0);
         let mut book = Book::create(strip, Open);
         assert!(rt; open_many(&mut book, 2).is_ok());
-        let Ok((one, other)) = run_chain(&mut book, legs, has_end, first) else {
-            return Err(Fail::new(i));
-        };
+        let (one, other) = run_chain(&mut book, legs, has_end, first).map_err(|_| Fail::new(i))?;
         assert_eq!(rt; number_of(&one), first_answer, "{}", i);
         assert_eq!(rt; number_of(&other), last_answer, "{}", i);
     }
@@ -135,8 +133,8 @@ fn a_batch_of_chains(rt: HostRuntime) {
     let taken = book.run(&orders, &mut answers).unwrap_or(99);
     assert_eq!(rt; taken, 3);
     let expected = [0, 11, 21, 0, 0, 12, 56, 56];
-    for (i, answer) in answers.iter().enumerate() {
-        assert_eq!(rt; number_of(answer), expected[i], "{}", i);
+    for (i, (answer, expected)) in answers.iter().zip(expected).enumerate() {
+        assert_eq!(rt; number_of(answer), expected, "{}", i);
     }
     let (roll, _) = book.close();
     assert_eq!(rt; roll.count(), 5);

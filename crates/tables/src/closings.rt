@@ -107,18 +107,14 @@ fn what_is_asked(rt: HostRuntime) -> Result<(), Fail> {
         (14, 60, Fate::Voided),
         (15, 60, Fate::Lapsed),
     ] {
-        let Some(held) = book.reservation(number) else {
-            return Err(Fail::new(number));
-        };
+        let held = book.reservation(number).ok_or_else(|| Fail::new(number))?;
         assert_eq!(rt; held.amount, 50, "{}", number);
         assert_eq!(rt; held.deadline, deadline, "{}", number);
         assert_eq!(rt; held.fate, fate, "{}", number);
     }
     // account; its four totals
     for (number, dp, dq, cp, cq) in [(1, 100, 51, 0, 0), (2, 0, 0, 100, 51), (6, 0, 0, 0, 0)] {
-        let Some(account) = book.account(number) else {
-            return Err(Fail::new(number));
-        };
+        let account = book.account(number).ok_or_else(|| Fail::new(number))?;
         assert_eq!(rt; account.totals.debits.pending, dp, "{}", number);
         assert_eq!(rt; account.totals.debits.posted, dq, "{}", number);
         assert_eq!(rt; account.totals.credits.pending, cp, "{}", number);

@@ -68,9 +68,9 @@ fn what_lapses(rt: HostRuntime) -> Result<(), Fail> {
     for (moment, lapsed, next, expected) in cases {
         let mut book = waiting(&rt);
         let mut lapses = [0; 5];
-        let Ok(moved) = book.move_to(moment, &mut lapses) else {
-            return Err(Fail::new("refused"));
-        };
+        let moved = book
+            .move_to(moment, &mut lapses)
+            .map_err(|_| Fail::new("refused"))?;
         assert_eq!(rt; moved.lapsed, lapsed, "{}", moment);
         assert_eq!(rt; moved.next_deadline, next, "{}", moment);
         assert_eq!(rt; lapses, expected, "{}", moment);

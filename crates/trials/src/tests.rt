@@ -34,12 +34,9 @@ fn three_records() -> [u8; 145] {
 
 // Appends an entry until it is refused, at most a thousand times, and says how often it was taken.
 fn fill<J: Journal>(journal: &mut J, entry: Entry) -> u64 {
-    for taken in 0..1000 {
-        if journal.append(entry).is_err() {
-            return taken;
-        }
-    }
-    1000
+    (0..1000)
+        .take_while(|_| journal.append(entry).is_ok())
+        .count() as u64
 }
 
 // What a strip made over the memory counts and has to spare.
@@ -54,9 +51,7 @@ fn a_record_by_its_bytes(rt: HostRuntime) -> Result<(), Fail> {
     let bytes = encode(&transfer()?);
     assert_eq!(rt; bytes, *TRANSFER);
     let bytes: &[u8] = TRANSFER;
-    let Some(entry) = decode(bytes) else {
-        return Err(Fail::new("not read"));
-    };
+    let entry = decode(bytes).ok_or_else(|| Fail::new("not read"))?;
     assert_eq!(rt; entry.fields.number, 7);
     assert!(rt; decode(&bytes[0..47]).is_none());
     Ok(())

@@ -46,7 +46,8 @@ impl Chain<'_> {
         Ok(outlook)
     }
 
-    // Takes a transfer.
+    // Takes a transfer. What a leg leaves of a chain (`GoesOn`) relates two states, so no type can say it; the fields
+    // of an order are taken apart where its kind is known, and each contract names them.
     pub fn transfer(
         &mut self,
         number: u32,

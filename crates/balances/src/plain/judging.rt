@@ -29,10 +29,7 @@ pub(crate) fn check_pair(debit: &Account, credit: &Account, amount: u64) -> Resu
     if debit.ledger != credit.ledger {
         return Err(Refusal::LedgersDiffer);
     }
-    if !debit.totals.debits.takes(amount) {
-        return Err(Refusal::TopPassed);
-    }
-    if !credit.totals.credits.takes(amount) {
+    if !debit.totals.debits.takes(amount) || !credit.totals.credits.takes(amount) {
         return Err(Refusal::TopPassed);
     }
     Ok(())

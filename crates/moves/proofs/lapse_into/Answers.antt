@@ -2,7 +2,7 @@ use Rattle.std.proofs.Common.{◌≡◌, length, get_or, set, sym, ap, ◌∙◌
 use Rattle.balances.specs.Books.{books_of}
 use Rattle.balances.specs.Lapses.{next_due}
 use Rattle.moves.specs.Turns.{number_or}
-use Rattle.moves.proofs.Stepping.{one_more, no_more, number_more, number_all, number_some, number_none}
+use Rattle.moves.proofs.Stepping.{one_more, number_more, number_some, number_none}
 use Rattle.moves.proofs.lapse_into.Goals as goal
 use Rattle.moves.proofs.lapse_into.Goals.{in-Some, in_default}
 
@@ -21,10 +21,3 @@ loop-place-preserved c =
     let long : length c.match-lapse_next.places ≡ length xs = omega arith in
     let next = number_more t k xs c.match-lapse_next.places _ i (omega arith) written c.loop-place.invariant.1 in
     (cc, cc)
-
-pub returns : goal.returns
-returns c =
-    let t = c.args.moment in
-    let k = books_of c.loop-place.balances in
-    let end = no_more (length c.loop-place.places) c.loop-place.place-index t k (omega arith) in
-    record { books = cc; numbers = number_all t k c.loop-place.places _ c.loop-place.place-index (omega arith) c.loop-place.invariant.1 }
