@@ -49,13 +49,15 @@ pub fn take_over(rt: &HostRuntime, memory: &mut [u8], used: usize) -> io::Result
             &mut their_bytes,
         ),
     );
-    println!(rt; "the first book, over a roll, and the second, over the strip:")?;
+    println!(rt; "the season once more, over a roll; a second book takes over from the strip")?;
     for (one, other) in my_told.iter().zip(their_told.iter()).take(11) {
+        print!(rt; "first: ")?;
         show_told(rt, one)?;
+        print!(rt; "second: ")?;
         show_told(rt, other)?;
     }
-    show_answers(rt, &my_answers)?;
-    show_answers(rt, &their_answers)?;
+    show_answers(rt, "first", &my_answers)?;
+    show_answers(rt, "second", &their_answers)?;
     let lapses = my_lapses == their_lapses;
     let bytes = my_bytes == their_bytes;
     println!(rt; "lapses equal: {lapses}, listings equal: {bytes}")?;
@@ -64,8 +66,8 @@ pub fn take_over(rt: &HostRuntime, memory: &mut [u8], used: usize) -> io::Result
     println!(rt; "entries: {entries} and {others}")
 }
 
-fn show_answers(rt: &HostRuntime, answers: &[Answer]) -> io::Result<()> {
-    print!(rt; "answers:")?;
+fn show_answers(rt: &HostRuntime, whose: &str, answers: &[Answer]) -> io::Result<()> {
+    print!(rt; "{whose}: answers")?;
     for answer in answers {
         let answer = number_of(answer);
         print!(rt; " {answer}")?;
