@@ -3,9 +3,9 @@
 #![tactic(auto)]
 
 mod asking;
-mod bytes;
-mod listing;
+mod memory;
 mod plan;
+mod reports;
 mod standby;
 mod told;
 
@@ -24,11 +24,11 @@ fn main(rt: HostRuntime) -> io::Result<()> {
     for ask in &season() {
         asking::ask(&rt, &mut book, &orders(), ask)?;
     }
-    let listing = listing::of(&book);
+    let listing = reports::listing(&book);
     let moment = book.moment();
     let (strip, _) = book.close();
     let used = strip.used();
-    bytes::show(&rt, strip.give_back(), used)?;
+    memory::show(&rt, strip.give_back(), used)?;
     replay(&rt, &mut memory, used, moment, &listing)?;
     standby::take_over(&rt, &mut memory, used)
 }
@@ -47,6 +47,6 @@ fn replay(
     println!(rt; "replay: {count} records")?;
     asking::ask(rt, &mut book, &[], &Ask::Reading)?;
     asking::move_to(rt, &mut book, moment)?;
-    let equal = listing::of(&book).as_slice() == listing;
+    let equal = reports::listing(&book).as_slice() == listing;
     println!(rt; "listing equal: {equal}")
 }
