@@ -1,5 +1,5 @@
 -- What the tables say: the accounts and reservations in the order in which they came, the highest number, the
--- queue of deadlines and the report row.
+-- queue of deadlines and the keys of the listing's lines.
 use Rattle.std.specs.Prelude.{ℕ, ◌≤◌, cond, List, [], ◌∷◌, ◌++◌, map, length, Some, None, Option, nat_lt, slice_index_or, slice_set}
 use Rattle.meaning.specs.declared.reservation.Reservation.{Reservation}
 use Rattle.meaning.specs.declared.fate.Fate.TheVariants.{Live}

@@ -1,4 +1,4 @@
--- The keys of the queue and of the report row.
+-- The keys of the queue and of the listing's lines.
 use Rattle.std.specs.Prelude.{ℕ, ◌+◌, cond, List, [], ◌∷◌, length, Some, None, Option, nat_le, nat_lt, slice_index_or}
 use Rattle.ordered.specs.declared.due.Due.{Due}
 use Rattle.meaning.specs.Basics.{put}

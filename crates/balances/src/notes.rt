@@ -6,7 +6,7 @@ use std::marker::Model;
 
 mod noting;
 
-// What a leg wrote over, so that it can be put back.
+// What a leg wrote over, so that it can be put back: the fields of its definition, `Trace`, as they stand there.
 #[derive(Clone, Copy)]
 pub struct Undo {
     pub(crate) debit: usize,

@@ -1,4 +1,4 @@
--- The keys of the report row that are still to come.
+-- The keys of the listing's lines that are still to come.
 use Rattle.std.specs.Prelude.{List, drop}
 use Rattle.ordered.specs.declared.line.Line.{Line}
 use Rattle.balances.specs.Books.{books_of}

@@ -1,4 +1,4 @@
--- The lines of a listing, over the keys of the report row.
+-- The lines of a listing, over their keys.
 use Rattle.std.specs.Prelude.{ℕ, Bool, true, cond, not, List, [], ◌∷◌, ◌++◌, Some, None, decimal, Option, ◌==◌}
 use Rattle.meaning.specs.Labels.{bytes8}
 use Rattle.meaning.specs.Listing.{fields}

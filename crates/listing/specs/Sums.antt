@@ -1,4 +1,4 @@
--- The sums of a ledger's accounts, over the keys of the report row.
+-- The sums of a ledger's accounts, over the keys of the listing's lines.
 use Rattle.std.specs.Prelude.{ℕ, cond, List, [], ◌∷◌, Some, None, Option, ◌==◌}
 use Rattle.meaning.specs.Questions.{Standing}
 use Rattle.ordered.specs.declared.line.Line.{Line}

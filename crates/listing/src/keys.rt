@@ -1,4 +1,5 @@
-// The keys of the report row, one after the other.
+// The keys of the listing's lines, one after the other. Their place is counted here, since the balances hand out plain
+// values, a key for its place, and no slice of their tables.
 ghost use Rattle.std.specs.Prelude.{◌≡◌};
 ghost use Rattle.std.specs.Iterator.{YieldsFirst, item_count};
 ghost use Rattle.balances.specs.Books.{books_of};

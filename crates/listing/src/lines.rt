@@ -1,4 +1,4 @@
-// The lines of a listing, over the keys of the report row.
+// The lines of a listing, one for each key and one for each ledger's sums.
 ghost use Rattle.std.specs.Prelude.{◌≡◌, ◌-◌, ◌^◌, min, length, take};
 ghost use Rattle.meaning.specs.Rows.{standing_of};
 ghost use Rattle.meaning.specs.Calls.{over};

@@ -31,7 +31,8 @@ impl Side {
         amount <= TOP - (self.pending + self.posted)
     }
 
-    // Adds to what is pending and to what is posted, where the side takes both.
+    // Adds to what is pending and to what is posted, where the side takes both. A struct of these two numbers would be
+    // named again at each call, and say no more than their names.
     pub fn add(&mut self, pending: u64, posted: u64)
         ensures pending { self.new.pending ≡ self.old.pending + at (fits self.old.pending self.old.posted (pending + posted)) pending }
         ensures posted { self.new.posted ≡ self.old.posted + at (fits self.old.pending self.old.posted (pending + posted)) posted }

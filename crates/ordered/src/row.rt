@@ -36,6 +36,7 @@ impl<T: Copy, const N: usize> Row<T, N> {
         }
     }
 
+    // That there are no more than N stands in this and the next two contracts, since a caller sees the list alone.
     pub fn as_slice(&self) -> &[T]
         ensures items { result.now ≡ self.now }
         ensures within { length self.now ≤ N }

@@ -9,7 +9,7 @@ use policy::Open;
 use std::test::Fail;
 
 // Its journal has one order, on accounts that it lacks.
-fn stopped() -> Book<Roll, Open> {
+fn stopped() -> Result<Book<Roll, Open>, Fail> {
     let fields = Record {
         number: 1,
         linked: false,
@@ -21,15 +21,14 @@ fn stopped() -> Book<Roll, Open> {
         },
     };
     let mut roll = Roll::new();
-    if let Some(entry) = Entry::new(fields) {
-        let _ = roll.append(entry);
-    }
-    Book::create(roll, Open)
+    let entry = Entry::new(fields).ok_or_else(|| Fail::new("not sound"))?;
+    roll.append(entry).map_err(|_| Fail::new("full"))?;
+    Ok(Book::create(roll, Open))
 }
 
 #[test]
 fn a_stopped_book(rt: HostRuntime) -> Result<(), Fail> {
-    let mut book = stopped();
+    let mut book = stopped()?;
     // alone, and where the call's own first condition holds too
     for number in [1, 0] {
         assert_eq!(rt; number_of(&book.open(&opening(number))), 10);
@@ -52,9 +51,10 @@ fn a_stopped_book(rt: HostRuntime) -> Result<(), Fail> {
     assert_eq!(rt; number_of(&book.run(&orders, &mut answers)), 10);
     assert!(rt; book.account(1).is_none() && book.reservation(1).is_none());
     assert_eq!(rt; book.moment(), 0);
-    let Err(stop) = book.reading() else {
-        return Err(Fail::new("read through"));
-    };
+    let stop = book
+        .reading()
+        .err()
+        .ok_or_else(|| Fail::new("read through"))?;
     assert_eq!(rt; stop.place, 0);
     assert_eq!(rt; stop.refusal.number(), 23);
     Ok(())
