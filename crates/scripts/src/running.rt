@@ -1,4 +1,8 @@
 // A script, run from its head to its end.
+ghost use Rattle.std.specs.Prelude.{◌≡◌, ◌⊎◌};
+ghost use Rattle.scripts.specs.declared.bad.Bad.{Bad as BadScript};
+ghost use Rattle.scripts.specs.declared.bad.Bad.TheVariants.{Output};
+
 use crate::bad::Bad;
 use crate::head::{Head, Kept, Rule, read_head};
 use crate::making::make;
@@ -82,22 +86,26 @@ fn run_by<P: Policy + Drop>(
 
 // Runs a script on a new book, over the memory where it has a strip; how many bytes of the output it wrote, and how it
 // ended. A script that can't be read in whole changes nothing.
-pub fn run(script: &[u8], memory: &mut [u8], output: &mut [u8]) -> (usize, Result<(), Bad>) {
-    let mut page = Page::new(output);
-    let ended = match check(Reader::new(script), script.len()) {
-        Err(bad) => Err(bad),
-        Ok(head) => match head.rule {
-            Rule::One(shape) => run_by(&head, shape, script, memory, &mut page),
-            Rule::ByClass { below, class, from } => {
-                run_by(
-                    &head,
-                    ByClass { below, class, from },
-                    script,
-                    memory,
-                    &mut page,
-                )
-            }
-        },
+pub fn run(script: &[u8], memory: &mut [u8], output: &mut [u8]) -> (usize, Result<(), Bad>)
+    ensures bad { (b : BadScript) → result.1 ≡ Err b → (b ≡ Output) ⊎ ((result.0 ≡ 0) × (memory.new ≡ memory.old) × (output.new ≡ output.old)) }
+{
+    let head = match check(Reader::new(script), script.len()) {
+        Ok(head) => head,
+        Err(bad) => return (0, Err(bad)),
     };
-    (page.written(), ended)
+    let mut page = Page::new(output);
+    let ended = match head.rule {
+        Rule::One(shape) => run_by(&head, shape, script, memory, &mut page),
+        Rule::ByClass { below, class, from } => {
+            run_by(
+                &head,
+                ByClass { below, class, from },
+                script,
+                memory,
+                &mut page,
+            )
+        }
+    };
+    // The whole script was read before, so only room can be short now.
+    (page.written(), ended.map_err(|_| Bad::Output))
 }
