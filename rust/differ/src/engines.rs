@@ -1,0 +1,15 @@
+/// Something that runs scripts: the code, and how many bytes of the output it wrote.
+pub trait Engine {
+    fn run(&self, script: &[u8], memory: &mut [u8], output: &mut [u8]) -> (u32, u64);
+}
+
+/// The engine in plain Rust.
+pub struct Second;
+
+impl Engine for Second {
+    fn run(&self, script: &[u8], memory: &mut [u8], output: &mut [u8]) -> (u32, u64) {
+        let (code, told) = script::run(script, memory, output.len());
+        output[..told.len()].copy_from_slice(&told);
+        (code, told.len() as u64)
+    }
+}
