@@ -1,15 +1,15 @@
 // Scripts of calls, as bytes: read, made on a book, and what was told written out.
 #![tactic(auto)]
 
-pub mod bad;
-pub mod head;
-pub mod making;
-pub mod page;
-pub mod reader;
-pub mod running;
-pub mod shape;
-pub mod showing;
-pub mod step;
+mod bad;
+mod head;
+mod making;
+mod page;
+mod reader;
+mod running;
+mod shape;
+mod showing;
+mod step;
 
 pub use bad::Bad;
 pub use running::run;
