@@ -2,7 +2,7 @@
 ghost use Rattle.std.specs.Prelude.{◌≡◌};
 ghost use Rattle.meaning.specs.Numbers.{number_of};
 
-// Each case has the number by which formats, lists and papers know it.
+// Each case has the number by which formats and users know it.
 #[derive(Clone, Copy, Debug, PartialEq, Eq)]
 pub enum Refusal {
     // The journal could not be read through, so the book takes no calls.

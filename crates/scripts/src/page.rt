@@ -25,11 +25,10 @@ impl<'a> Page<'a> {
     }
 
     pub fn put(&mut self, bytes: &[u8]) {
-        for byte in bytes {
-            if self.next < self.bytes.len() {
-                self.bytes[self.next] = *byte;
-                self.next += 1;
-            }
+        let end = self.next.saturating_add(bytes.len());
+        if end <= self.bytes.len() {
+            self.bytes[self.next..end].copy_from_slice(bytes);
+            self.next = end;
         }
     }
 

@@ -1,12 +1,11 @@
 //! Runs one case on two engines, and looks at every byte.
 
 use crate::case::{pattern, Case};
-use crate::engines::{Engine, Second};
+use crate::engines::Engine;
 
 /// Bytes before and after the memory and the output that nobody may touch.
 const GUARD: usize = 64;
 /// The code for an output that is too short.
-const OUTPUT_SHORT: u32 = 8;
 
 /// What came of a case on one engine. Memory and output have their guards.
 #[derive(Clone, Debug, PartialEq, Eq)]
@@ -55,8 +54,8 @@ fn guarded(memory: &[u8]) -> Vec<u8> {
     [&guard, memory, &guard].concat()
 }
 
-/// The first difference between what came of the case on both engines.
-pub fn difference(script: &[u8], case: &Case, one: &Ran, two: &Ran) -> Option<Difference> {
+/// The first difference between what came of a case on both engines.
+pub fn difference(one: &Ran, two: &Ran) -> Option<Difference> {
     if one.code != two.code {
         return Some(Difference::Code);
     }
@@ -66,11 +65,7 @@ pub fn difference(script: &[u8], case: &Case, one: &Ran, two: &Ran) -> Option<Di
     if let Some(place) = first_other(&one.output, &two.output) {
         return Some(Difference::Output(place));
     }
-    let place = first_other(&one.memory, &two.memory)?;
-    if one.code == OUTPUT_SHORT && one.memory == without_last(script, case) {
-        return None;
-    }
-    Some(Difference::Memory(place))
+    first_other(&one.memory, &two.memory).map(Difference::Memory)
 }
 
 fn first_other(one: &[u8], two: &[u8]) -> Option<isize> {
@@ -78,21 +73,10 @@ fn first_other(one: &[u8], two: &[u8]) -> Option<isize> {
     Some(place as isize - GUARD as isize)
 }
 
-/// The memory where the call that didn't fit the output was not made.
-fn without_last(script: &[u8], case: &Case) -> Vec<u8> {
-    let mut memory = case.memory.clone();
-    let room = case.room(script);
-    let told = script::run_counted(script, &mut memory, room).calls_told;
-    let parsed = |end: &usize| script::parse(&script[..*end]);
-    let end = (0..=script.len()).find(|end| parsed(end).is_ok_and(|s| s.calls.len() == told));
-    let prefix = &script[..end.expect("a script begins with each of its calls")];
-    let unlimited = Case { output: None, ..case.clone() };
-    run(&Second, prefix, &unlimited).memory
-}
-
 #[cfg(test)]
 mod tests {
     use super::*;
+    use crate::engines::Second;
     use crate::plan::{Call, Head, Plan};
 
     fn opening() -> Case {
@@ -107,29 +91,14 @@ mod tests {
         let case = opening();
         let script = case.script();
         let one = run(&Second, &script, &case);
-        assert_eq!(difference(&script, &case, &one, &one), None);
+        assert_eq!(difference(&one, &one), None);
         let mut two = one.clone();
         *two.output.last_mut().expect("guarded") ^= 1;
-        let found = difference(&script, &case, &one, &two);
+        let found = difference(&one, &two);
         assert_eq!(found, Some(Difference::Output(case.room(&script) as isize + 63)));
         let mut two = one.clone();
         two.memory[GUARD + 98] ^= 1;
-        let found = difference(&script, &case, &one, &two);
+        let found = difference(&one, &two);
         assert_eq!(found, Some(Difference::Memory(98)));
-    }
-
-    #[test]
-    fn a_call_that_did_not_fit_may_be_left_out() {
-        let case = opening().with_output(1);
-        let script = case.script();
-        let made = run(&Second, &script, &case);
-        assert_eq!((made.code, made.written), (8, 0));
-        let mut left_out = made.clone();
-        let mut memory = pattern(99);
-        memory[0] = 1;
-        left_out.memory = guarded(&memory);
-        assert_eq!(difference(&script, &case, &left_out, &made), None);
-        left_out.memory[GUARD + 50] ^= 1;
-        assert!(difference(&script, &case, &left_out, &made).is_some());
     }
 }

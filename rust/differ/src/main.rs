@@ -72,7 +72,7 @@ fn compare_all(args: &Args, first: &dyn Engine) -> ExitCode {
 fn compare(first: &dyn Engine, script: &[u8], case: &Case) -> (Option<Difference>, Ran, Ran) {
     let one = run(first, script, case);
     let two = run(&Second, script, case);
-    (difference(script, case, &one, &two), one, two)
+    (difference(&one, &two), one, two)
 }
 
 /// Shrinks and shows a case that differs.

@@ -141,7 +141,7 @@ mod tests {
         let differs = |case: &Case| {
             let script = case.script();
             let ran = [&Broken as &dyn Engine, &Second].map(|e| run(e, &script, case));
-            difference(&script, case, &ran[0], &ran[1]).is_some()
+            difference(&ran[0], &ran[1]).is_some()
         };
         assert!(differs(&case));
         let small = shrink(case, differs);
