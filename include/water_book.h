@@ -2,6 +2,7 @@
 #ifndef WATER_BOOK_H
 #define WATER_BOOK_H
 
+#include <stdbool.h>
 #include <stddef.h>
 #include <stdint.h>
 
@@ -36,6 +37,15 @@ uint32_t water_book_run(const uint8_t *script, size_t script_len,
                         uint8_t *memory, size_t memory_len,
                         uint8_t *output, size_t output_len,
                         uint64_t *written);
+
+/*
+ * How many bytes of a strip are in use, of which at most `used` are: 1 and 48 for each record up to the first that is unsound or
+ * cut; 0 where memory doesn't begin with the version byte. With `used` 0 the strip begins anew: the version byte is written.
+ */
+size_t water_book_used(uint8_t *memory, size_t memory_len, size_t used);
+
+/* Whether a number is a label: 1 to 8 of A-Z, 0-9 and '-', filled with spaces, the first in the byte of most weight. */
+bool water_book_is_label(uint64_t code);
 
 #ifdef __cplusplus
 }

@@ -1,8 +1,12 @@
-// The library for the hub: scripts of calls, run from C.
+// The library for the hub: scripts of calls run from C, and what a hub asks of a strip and of a label.
 #![tactic(auto)]
 
-ghost use Rattle.std.specs.Prelude.{◌≡◌, ◌⊎◌};
+ghost use Rattle.std.specs.Prelude.{◌≡◌, ◌⊎◌, length};
+ghost use Rattle.meaning.specs.Labels.{is_label};
+ghost use Rattle.journal.specs.Strips.{made_bytes, made_list, used_of};
 
+use journal::Strip;
+use meaning::Label;
 use scripts::run;
 
 // Runs a script, as `water_book.h` says; how it ended, and in `written` how many bytes of the output were written. A
@@ -22,4 +26,33 @@ pub extern "C" fn water_book_run(
         Ok(()) => 0,
         Err(bad) => bad as u32,
     }
+}
+
+// The strip's memory again, and how many of its bytes are in use.
+fn measure<'a>(memory: &'a mut [u8], used: usize) -> (&'a mut [u8], usize)
+    ensures home { result.0.ghost_name ≡ memory.entry.ghost_name }
+    ensures bytes { result.0.now ≡ made_bytes memory.old used }
+    ensures used { result.1 ≡ used_of (made_bytes memory.old used) (length (made_list memory.old used)) }
+{
+    let strip = Strip::make(memory, used);
+    let used = strip.used();
+    (strip.give_back(), used)
+}
+
+// How many bytes of a strip are in use: those of its sound records, up to the first that is unsound or cut.
+#[unsafe(no_mangle)]
+pub extern "C" fn water_book_used(memory: &mut [u8], used: usize) -> usize
+    ensures used { result ≡ used_of (made_bytes memory.old used) (length (made_list memory.old used)) }
+    ensures bytes { memory.new ≡ made_bytes memory.old used }
+{
+    let (_memory, used) = measure(memory, used);
+    used
+}
+
+// Whether a number is a label.
+#[unsafe(no_mangle)]
+pub extern "C" fn water_book_is_label(code: u64) -> bool
+    ensures { result ≡ is_label code }
+{
+    Label::new(code).is_some()
 }
