@@ -1,10 +1,8 @@
 // A standby book takes over from another, over another kind of journal. Nothing is assumed of past and further calls.
 ghost use Rattle.std.specs.Prelude.{◌≡◌};
-ghost use Rattle.journal.specs.declared.mirror.Mirror.{Mirror as Mirrored};
-ghost use Rattle.journal.specs.declared.roll.Roll.{Roll as Rolled};
 ghost use Rattle.steps.specs.Written.{entries_of};
-ghost use Rattle.promise.specs.Histories.{with_desk, Alike, Twin};
-ghost use Rattle.promise.specs.Worlds.{final, adds_all};
+ghost use Rattle.promise.specs.Worlds.{adds_all};
+ghost use Rattle.clients.specs.Handed.{HandedOver};
 ghost use Rattle.clients.specs.Seasons.{season, before_all, then_was};
 
 use book::Book;
@@ -62,7 +60,7 @@ pub fn hand_over(
     mine: &mut Desk<'_>,
     theirs: &mut Desk<'_>,
 ) -> (Book<Roll, Season>, Book<Mirror<Roll, Roll>, Season>)
-    ensures { Alike mine.old theirs.old → (x : Mirrored Rolled Rolled) × Twin ⟦<Roll as Journal>⟧ ⟦<Season as Policy>⟧ ⟦<Mirror<Roll, Roll> as Journal>⟧ ⟦<Season as Policy>⟧ season (then_was orders.now past.now) (adds_all season orders.now (with_desk (then_was orders.now past.now) mine.old) further.now) mine.new theirs.new x result.0 result.1 }
+    ensures { HandedOver ⟦<Roll as Journal>⟧ ⟦<Season as Policy>⟧ ⟦<Mirror<Roll, Roll> as Journal>⟧ ⟦<Season as Policy>⟧ orders.now past.now further.now mine.old theirs.old mine.new theirs.new result.0 result.1 }
 {
     let mut told = [Told::Nothing; 16];
     let mut answers = [Ok(()); 64];
