@@ -120,8 +120,9 @@ impl<T: Copy, const N: usize> Row<T, N> {
     pub fn copy_from(&mut self, other: &Row<T, N>)
         ensures { self.new ≡ other.now }
     {
-        self.places = other.places;
-        self.len = other.len;
+        let items = other.as_slice();
+        self.places[..items.len()].copy_from_slice(items);
+        self.len = items.len();
     }
 }
 

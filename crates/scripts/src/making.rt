@@ -5,10 +5,10 @@ use crate::showing::{
     show_account, show_moment, show_moved, show_opened, show_ran, show_reading, show_reported,
     show_reservation,
 };
-use crate::step::{ANSWERS, BYTES, LAPSES, Step};
+use crate::step::{ANSWERS, BYTES, LAPSES, NONE, ORDERS, Orders, Step};
 use book::Book;
 use journal::Journal;
-use meaning::{Order, Refusal};
+use meaning::Refusal;
 use policy::Policy;
 
 // What stands in a list of bytes before a call.
@@ -16,13 +16,15 @@ const UNWRITTEN: u8 = 0xa5;
 
 fn run<J: Journal, P: Policy>(
     book: &mut Book<J, P>,
-    orders: &[Order],
+    orders: &Orders<'_>,
     places: usize,
     page: &mut Page<'_>,
 ) -> Result<(), Bad> {
+    let mut list = [NONE; ORDERS];
+    let count = orders.read_into(&mut list)?.min(ORDERS);
     let mut answers = [Err(Refusal::AnswersTooShort); ANSWERS];
     let answers = &mut answers[..places.min(ANSWERS)];
-    let answer = book.run(orders, answers);
+    let answer = book.run(&list[..count], answers);
     show_ran(page, &answer, answers)
 }
 
@@ -51,14 +53,12 @@ fn report<J: Journal, P: Policy>(
 
 pub fn make<J: Journal, P: Policy>(
     book: &mut Book<J, P>,
-    step: &Step,
+    step: &Step<'_>,
     page: &mut Page<'_>,
 ) -> Result<(), Bad> {
     match step {
         Step::Open(opening) => show_opened(page, &book.open(opening)),
-        Step::Run(orders, count, places) => {
-            run(book, &orders[..(*count).min(orders.len())], *places, page)
-        }
+        Step::Run { orders, answers } => run(book, orders, *answers, page),
         Step::Move { moment, lapses } => move_to(book, *moment, *lapses, page),
         Step::Report(places) => report(book, *places, page),
         Step::Account(number) => show_account(page, book.account(*number)),

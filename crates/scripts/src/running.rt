@@ -43,7 +43,9 @@ fn run_calls<J: Journal, P: Policy>(
     Ok(())
 }
 
-// All calls on a book over this journal, and then the journal, shown and given back.
+// All calls on a book over this journal, and then the journal, shown and given back. Each kind of journal has a frame of
+// its own on the stack, so that only one book at a time takes room there.
+#[inline(never)]
 fn run_over<J: Journal + Drop, P: Policy + Drop>(
     journal: J,
     policy: P,

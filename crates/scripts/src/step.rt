@@ -11,11 +11,17 @@ pub const LAPSES: usize = 300;
 
 pub const BYTES: usize = 8192;
 
+// The orders of a batch, which stand in the script one after another.
 #[derive(Clone, Copy)]
-pub enum Step {
+pub struct Orders<'a> {
+    first: Reader<'a>,
+    count: usize,
+}
+
+#[derive(Clone, Copy)]
+pub enum Step<'a> {
     Open(Opening),
-    // The orders, how many they are, and the places of the list of answers.
-    Run([Order; ORDERS], usize, usize),
+    Run { orders: Orders<'a>, answers: usize },
     Move { moment: u64, lapses: usize },
     Report(usize),
     Account(u32),
@@ -24,7 +30,8 @@ pub enum Step {
     Reading,
 }
 
-const NONE: Order = Order {
+// What stands in a list of orders before any is read.
+pub const NONE: Order = Order {
     number: 0,
     linked: false,
     action: Action::Void { reservation: 0 },
@@ -85,17 +92,31 @@ fn order(reader: &mut Reader<'_>) -> Result<Order, Bad> {
     })
 }
 
-fn batch(reader: &mut Reader<'_>) -> Result<Step, Bad> {
-    let count = length(usize::from(reader.u8()?), ORDERS)?;
-    let answers = length(usize::from(reader.u8()?), ANSWERS)?;
-    let mut orders = [NONE; ORDERS];
-    for place in orders.iter_mut().take(count) {
-        *place = order(reader)?;
+impl Orders<'_> {
+    // Reads them to the front of a list; how many they are.
+    pub fn read_into(&self, list: &mut [Order]) -> Result<usize, Bad> {
+        let mut reader = self.first;
+        for place in list.iter_mut().take(self.count) {
+            *place = order(&mut reader)?;
+        }
+        Ok(self.count)
     }
-    Ok(Step::Run(orders, count, answers))
 }
 
-pub fn read_step(reader: &mut Reader<'_>) -> Result<Step, Bad> {
+fn batch<'a>(reader: &mut Reader<'a>) -> Result<Step<'a>, Bad> {
+    let count = length(usize::from(reader.u8()?), ORDERS)?;
+    let answers = length(usize::from(reader.u8()?), ANSWERS)?;
+    let orders = Orders {
+        first: *reader,
+        count,
+    };
+    for _order in 0..count {
+        order(reader)?;
+    }
+    Ok(Step::Run { orders, answers })
+}
+
+pub fn read_step<'a>(reader: &mut Reader<'a>) -> Result<Step<'a>, Bad> {
     match reader.u8()? {
         1 => Ok(Step::Open(opening(reader)?)),
         2 => batch(reader),
