@@ -1,1 +1,4 @@
 pub mod Shapes
+pub mod Forms
+pub mod Readers
+pub mod Ended

@@ -5,10 +5,10 @@ use crate::showing::{
     show_account, show_moment, show_moved, show_opened, show_ran, show_reading, show_reported,
     show_reservation,
 };
-use crate::step::{ANSWERS, BYTES, LAPSES, NONE, ORDERS, Orders, Step};
+use crate::step::{ANSWERS, BYTES, LAPSES, ORDERS, Step};
 use book::Book;
 use journal::Journal;
-use meaning::Refusal;
+use meaning::{Order, Refusal};
 use policy::Policy;
 
 // What stands in a list of bytes before a call.
@@ -16,15 +16,13 @@ const UNWRITTEN: u8 = 0xa5;
 
 fn run<J: Journal, P: Policy>(
     book: &mut Book<J, P>,
-    orders: &Orders<'_>,
+    orders: &[Order],
     places: usize,
     page: &mut Page<'_>,
 ) -> Result<(), Bad> {
-    let mut list = [NONE; ORDERS];
-    let count = orders.read_into(&mut list)?.min(ORDERS);
     let mut answers = [Err(Refusal::AnswersTooShort); ANSWERS];
     let answers = &mut answers[..places.min(ANSWERS)];
-    let answer = book.run(&list[..count], answers);
+    let answer = book.run(orders, answers);
     show_ran(page, &answer, answers)
 }
 
@@ -53,12 +51,13 @@ fn report<J: Journal, P: Policy>(
 
 pub fn make<J: Journal, P: Policy>(
     book: &mut Book<J, P>,
-    step: &Step<'_>,
+    step: &Step,
+    list: &[Order; ORDERS],
     page: &mut Page<'_>,
 ) -> Result<(), Bad> {
     match step {
         Step::Open(opening) => show_opened(page, &book.open(opening)),
-        Step::Run { orders, answers } => run(book, orders, *answers, page),
+        Step::Run { orders, answers } => run(book, &list[..(*orders).min(ORDERS)], *answers, page),
         Step::Move { moment, lapses } => move_to(book, *moment, *lapses, page),
         Step::Report(places) => report(book, *places, page),
         Step::Account(number) => show_account(page, book.account(*number)),

@@ -1,5 +1,7 @@
 // One of the policies that know no classes. A script names it by its number.
+ghost use Rattle.std.specs.Prelude.{◌≡◌};
 ghost use Rattle.std.proofs.Common.{rules};
+ghost use Rattle.scripts.specs.Forms.{shape_of};
 ghost use Rattle.scripts.specs.Shapes.{admits_of};
 
 use crate::bad::Bad;
@@ -14,7 +16,9 @@ pub enum Shape {
 }
 
 impl Shape {
-    pub fn numbered(number: u8) -> Result<Shape, Bad> {
+    pub fn numbered(number: u8) -> Result<Shape, Bad>
+        ensures { result ≡ shape_of number }
+    {
         match number {
             0 => Ok(Shape::Open),
             1 => Ok(Shape::Floor),

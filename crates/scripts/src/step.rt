@@ -1,6 +1,10 @@
 // One call of a script.
+ghost use Rattle.std.specs.Prelude.{◌≡◌, ◌≤◌, Ok, take};
+ghost use Rattle.scripts.specs.Readers.{with_list};
+ghost use Rattle.scripts.specs.Forms.{then_do, orders_at, batch_at, call_at, with_next, behind, at_most, opening_of, action_of, order_of};
+
 use crate::bad::Bad;
-use crate::reader::Reader;
+use crate::reader::{Reader, bytes_at};
 use meaning::{Action, Opening, Order};
 
 pub const ORDERS: usize = 64;
@@ -11,17 +15,11 @@ pub const LAPSES: usize = 300;
 
 pub const BYTES: usize = 8192;
 
-// The orders of a batch, which stand in the script one after another.
 #[derive(Clone, Copy)]
-pub struct Orders<'a> {
-    first: Reader<'a>,
-    count: usize,
-}
-
-#[derive(Clone, Copy)]
-pub enum Step<'a> {
+pub enum Step {
     Open(Opening),
-    Run { orders: Orders<'a>, answers: usize },
+    // So many orders, and so many places for their answers.
+    Run { orders: usize, answers: usize },
     Move { moment: u64, lapses: usize },
     Report(usize),
     Account(u32),
@@ -31,31 +29,37 @@ pub enum Step<'a> {
 }
 
 // What stands in a list of orders before any is read.
-pub const NONE: Order = Order {
+pub const NO_ORDER: Order = Order {
     number: 0,
     linked: false,
     action: Action::Void { reservation: 0 },
 };
 
 // The length of a list, where it is no longer than allowed.
-fn length(length: usize, most: usize) -> Result<usize, Bad> {
+fn at_most(most: usize, length: usize) -> Result<usize, Bad>
+    ensures { result ≡ at_most most length }
+{
     if length > most {
         return Err(Bad::List);
     }
     Ok(length)
 }
 
-fn opening(reader: &mut Reader<'_>) -> Result<Opening, Bad> {
-    Ok(Opening {
-        number: reader.u32()?,
-        ledger: reader.u16()?,
-        class: reader.u8()?,
-        limit: reader.u64()?,
-        label: reader.u64()?,
-    })
+fn opening_of(bytes: &[u8; 23]) -> Opening
+    ensures { result ≡ opening_of bytes.now }
+{
+    Opening {
+        number: u32::from_be_bytes(bytes_at(bytes, 0)),
+        ledger: u16::from_be_bytes(bytes_at(bytes, 4)),
+        class: bytes[6],
+        limit: u64::from_be_bytes(bytes_at(bytes, 7)),
+        label: u64::from_be_bytes(bytes_at(bytes, 15)),
+    }
 }
 
-fn action(kind: u8, first: u32, second: u32, amount: u64, duration: u32) -> Result<Action, Bad> {
+fn action_of(kind: u8, first: u32, second: u32, amount: u64, duration: u32) -> Result<Action, Bad>
+    ensures { result ≡ action_of kind first second amount duration }
+{
     match kind {
         2 => Ok(Action::Transfer {
             debit: first,
@@ -77,56 +81,71 @@ fn action(kind: u8, first: u32, second: u32, amount: u64, duration: u32) -> Resu
     }
 }
 
-fn order(reader: &mut Reader<'_>) -> Result<Order, Bad> {
-    let number = reader.u32()?;
-    let (mark, kind) = (reader.u8()?, reader.u8()?);
-    let (first, second) = (reader.u32()?, reader.u32()?);
-    let (amount, duration) = (reader.u64()?, reader.u32()?);
-    if mark > 1 {
+fn order_of(bytes: &[u8; 26]) -> Result<Order, Bad>
+    ensures { result ≡ order_of bytes.now }
+{
+    if bytes[4] > 1 {
         return Err(Bad::Order);
     }
     Ok(Order {
-        number,
-        linked: mark == 1,
-        action: action(kind, first, second, amount, duration)?,
+        number: u32::from_be_bytes(bytes_at(bytes, 0)),
+        linked: bytes[4] == 1,
+        action: action_of(
+            bytes[5],
+            u32::from_be_bytes(bytes_at(bytes, 6)),
+            u32::from_be_bytes(bytes_at(bytes, 10)),
+            u64::from_be_bytes(bytes_at(bytes, 14)),
+            u32::from_be_bytes(bytes_at(bytes, 22)),
+        )?,
     })
 }
 
-impl Orders<'_> {
-    // Reads them to the front of a list; how many they are.
-    pub fn read_into(&self, list: &mut [Order]) -> Result<usize, Bad> {
-        let mut reader = self.first;
-        for place in list.iter_mut().take(self.count) {
-            *place = order(&mut reader)?;
-        }
-        Ok(self.count)
-    }
+// The next order.
+fn read_order(reader: &mut Reader<'_>) -> Result<Order, Bad>
+    ensures order { result ≡ with_next 26 reader.old.rest.now order_of }
+    ensures rest { reader.new.rest.now ≡ behind 26 reader.old.rest.now }
+{
+    let bytes = reader.take()?;
+    order_of(&bytes)
 }
 
-fn batch<'a>(reader: &mut Reader<'a>) -> Result<Step<'a>, Bad> {
-    let count = length(usize::from(reader.u8()?), ORDERS)?;
-    let answers = length(usize::from(reader.u8()?), ANSWERS)?;
-    let orders = Orders {
-        first: *reader,
-        count,
-    };
-    for _order in 0..count {
-        order(reader)?;
+// So many orders, to the front of a list.
+fn read_orders(reader: &mut Reader<'_>, list: &mut [Order; ORDERS], count: usize) -> Result<(), Bad>
+    requires { count ≤ 64 }
+    ensures { then_do result (λ _. Ok (take count list.new, reader.new.rest.now)) ≡ orders_at count reader.old.rest.now }
+{
+    for place in 0..count {
+        list[place] = read_order(reader)?;
     }
+    Ok(())
+}
+
+fn read_batch(reader: &mut Reader<'_>, list: &mut [Order; ORDERS]) -> Result<Step, Bad>
+    ensures { then_do result (λ s. Ok (with_list list.new s, reader.new.rest.now)) ≡ batch_at reader.old.rest.now }
+{
+    let orders = at_most(ORDERS, usize::from(reader.u8()?))?;
+    let answers = at_most(ANSWERS, usize::from(reader.u8()?))?;
+    read_orders(reader, list, orders)?;
     Ok(Step::Run { orders, answers })
 }
 
-pub fn read_step<'a>(reader: &mut Reader<'a>) -> Result<Step<'a>, Bad> {
+// The next call; the orders of a batch stand at the front of the list then.
+pub fn read_step(reader: &mut Reader<'_>, list: &mut [Order; ORDERS]) -> Result<Step, Bad>
+    ensures { then_do result (λ s. Ok (with_list list.new s, reader.new.rest.now)) ≡ call_at reader.old.rest.now }
+{
     match reader.u8()? {
-        1 => Ok(Step::Open(opening(reader)?)),
-        2 => batch(reader),
-        3 => Ok(Step::Move {
-            moment: reader.u64()?,
-            lapses: length(usize::from(reader.u16()?), LAPSES)?,
-        }),
-        4 => Ok(Step::Report(length(usize::from(reader.u16()?), BYTES)?)),
-        5 => Ok(Step::Account(reader.u32()?)),
-        6 => Ok(Step::Reservation(reader.u32()?)),
+        1 => Ok(Step::Open(opening_of(&reader.take()?))),
+        2 => read_batch(reader, list),
+        3 => {
+            let bytes: [u8; 10] = reader.take()?;
+            Ok(Step::Move {
+                moment: u64::from_be_bytes(bytes_at(&bytes, 0)),
+                lapses: at_most(LAPSES, usize::from(u16::from_be_bytes(bytes_at(&bytes, 8))))?,
+            })
+        },
+        4 => Ok(Step::Report(at_most(BYTES, usize::from(u16::from_be_bytes(reader.take()?)))?)),
+        5 => Ok(Step::Account(u32::from_be_bytes(reader.take()?))),
+        6 => Ok(Step::Reservation(u32::from_be_bytes(reader.take()?))),
         7 => Ok(Step::Moment),
         8 => Ok(Step::Reading),
         _ => Err(Bad::Call),

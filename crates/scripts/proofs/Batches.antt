@@ -1,0 +1,28 @@
+-- The orders of a batch, one after another.
+use Rattle.std.proofs.Common.{◌≡◌, ℕ, suc, List, [], ◌∷◌, ◌++◌, Ok, Err, Result, refl, ap, sym, ◌∙◌}
+use Rattle.std.proofs.lemmas.List.{append_assoc}
+use Rattle.meaning.specs.declared.order.Order.{Order}
+use Rattle.scripts.specs.declared.bad.Bad.{Bad}
+use Rattle.scripts.specs.Forms.{then_do, with_next, behind, order_of, orders_at}
+
+-- those that were read, before those that are still to be read
+abbrev pub before : List Order → Result (List Order × List ℕ) Bad → Result (List Order × List ℕ) Bad
+before xs r = then_do r (λ r. Ok (xs ++ r.0, r.1))
+
+pub before_nothing : (r : Result (List Order × List ℕ) Bad) → before [] r ≡ r
+before_nothing (Ok r) = refl
+before_nothing (Err b) = refl
+
+before_one : (xs : List Order) (o : Order) (r : Result (List Order × List ℕ) Bad) → before (xs ++ o ∷ []) r ≡ before xs (then_do r (λ r. Ok (o ∷ r.0, r.1)))
+before_one xs o (Ok r) = ap (λ ys. Ok (ys, r.1)) (append_assoc xs (o ∷ []) r.0)
+before_one xs o (Err b) = refl
+
+-- what the next one adds
+abbrev with_more : List Order → ℕ → List ℕ → Result Order Bad → Result (List Order × List ℕ) Bad
+with_more xs k bs r = before xs (then_do r (λ o. then_do (orders_at k (behind 26 bs)) (λ r. Ok (o ∷ r.0, r.1))))
+
+pub one_more : (xs : List Order) (o : Order) (k : ℕ) (bs : List ℕ) → with_next 26 bs order_of ≡ Ok o → before (xs ++ o ∷ []) (orders_at k (behind 26 bs)) ≡ before xs (orders_at (suc k) bs)
+one_more xs o k bs is = before_one xs o (orders_at k (behind 26 bs)) ∙ ap (with_more xs k bs) (sym is)
+
+pub cut_short : (xs : List Order) (b : Bad) (k : ℕ) (bs : List ℕ) → with_next 26 bs order_of ≡ Err b → Err b ≡ before xs (orders_at (suc k) bs)
+cut_short xs b k bs is = ap (with_more xs k bs) (sym is)
