@@ -1,11 +1,9 @@
 // The library for the hub: scripts of calls run from C, and what a hub asks of a strip and of a label.
 #![tactic(auto)]
 
-ghost use Rattle.std.specs.Prelude.{◌≡◌, ◌⊎◌, List, Ok, Err, length};
-ghost use Rattle.scripts.specs.declared.bad.Bad.{Bad};
-ghost use Rattle.scripts.specs.declared.head.Head.{Head};
-ghost use Rattle.scripts.specs.Forms.{Call, script_at};
-ghost use Rattle.scripts.specs.Ended.{code_of};
+ghost use Rattle.std.specs.Prelude.{◌≡◌, length};
+ghost use Rattle.scripts.specs.Forms.{script_at};
+ghost use Rattle.scripts.specs.Ended.{Answers};
 ghost use Rattle.meaning.specs.Labels.{is_label};
 ghost use Rattle.journal.specs.Strips.{made_bytes, made_list, used_of};
 
@@ -22,8 +20,7 @@ pub extern "C" fn water_book_run(
     output: &mut [u8],
     written: &mut u64,
 ) -> u32
-    ensures bad { (b : Bad) → script_at script.now ≡ Err b → ((result ≡ code_of b) × (written.new ≡ 0)) × ((memory.new ≡ memory.old) × (output.new ≡ output.old)) }
-    ensures good { (s : Head × List Call) → script_at script.now ≡ Ok s → (result ≡ 0) ⊎ (result ≡ 8) }
+    ensures { Answers (script_at script.now) memory.old output.old result written.new memory.new output.new }
 {
     let (length, ended) = run(script, memory, output);
     *written = length as u64;

@@ -1,2 +1,11 @@
 pub mod Batches
 pub mod Calls
+pub mod Laid
+pub mod Parts
+pub mod Rooms
+pub mod Telling
+pub mod Booked
+pub mod Underway
+pub mod Endings
+pub mod Found
+pub mod Reading

@@ -129,4 +129,4 @@ calls_at (suc most) bs = cond (length bs == 0) (Ok []) (then_do (call_at bs) (λ
 
 -- The whole script. No call is shorter than a byte, so that there are no more calls than bytes.
 abbrev pub script_at : List ℕ → Result (Head × List Call) Bad
-script_at bs = then_do (head_at bs) (λ h. then_do (calls_at (length bs) (behind 14 bs)) (λ cs. Ok (h, cs)))
+script_at bs = then_do (head_at bs) (λ h. then_do (calls_at (length (behind 14 bs)) (behind 14 bs)) (λ cs. Ok (h, cs)))

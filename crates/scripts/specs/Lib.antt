@@ -1,4 +1,9 @@
 pub mod Shapes
 pub mod Forms
 pub mod Readers
+pub mod Pages
+pub mod Told
+pub mod Courses
+pub mod Made
+pub mod Runs
 pub mod Ended

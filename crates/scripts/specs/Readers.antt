@@ -1,10 +1,15 @@
 -- What a reader has given, beside the form of the bytes.
-use Rattle.std.specs.Prelude.{List, [], take, Ok, Result}
+use Rattle.std.specs.Prelude.{ℕ, zero, suc, ◌≤◌, cond, List, [], length, take, Ok, Err, Result, ◌==◌}
+use Rattle.std.specs.Borrow.{Bor}
 use Rattle.meaning.specs.declared.order.Order.{Order}
 use Rattle.scripts.specs.declared.bad.Bad.{Bad}
+use Rattle.scripts.specs.declared.head.Head.{Head}
 use Rattle.scripts.specs.declared.step.Step.{Step}
 use Rattle.scripts.specs.declared.step.Step.TheVariants.{Open, Run, Move, Report, Account, Reservation, Moment, Reading}
-use Rattle.scripts.specs.Forms.{Call, then_do}
+use Rattle.meaning.specs.Calls.{State}
+use Rattle.meaning.specs.Rules.{Policy}
+use Rattle.scripts.specs.Courses.{Course, over_at, with_call}
+use Rattle.scripts.specs.Forms.{Call, then_do, behind, call_at, script_at}
 
 -- the orders of a call, which stand at the front of a list
 abbrev pub orders_in : Step → List Order → List Order
@@ -17,9 +22,37 @@ orders_in (Reservation n) list = []
 orders_in Moment list = []
 orders_in Reading list = []
 
+-- its lists are no longer than allowed
+abbrev pub Within : Step → Type 0
+Within (Open A) = Unit {0}
+Within (Run n places) = (n ≤ 64) × (places ≤ 64)
+Within (Move t places) = places ≤ 300
+Within (Report places) = places ≤ 8192
+Within (Account n) = Unit {0}
+Within (Reservation n) = Unit {0}
+Within Moment = Unit {0}
+Within Reading = Unit {0}
+
 abbrev pub with_list : List Order → Step → Call
 with_list list s = record { step = s; orders = orders_in s list }
 
 -- whether there is a result, whatever it is
 abbrev pub whether : {X : Type 0} → Result X Bad → Result (Unit {0}) Bad
 whether r = then_do r (λ _. Ok tt)
+
+-- a script's head and the bytes of its calls, where they can all be read
+abbrev pub to_run : List ℕ → Result (Head × List ℕ) Bad
+to_run bs = then_do (script_at bs) (λ s. Ok (s.0, behind 14 bs))
+
+abbrev pub seen : Result (Head × Bor (List ℕ)) Bad → Result (Head × List ℕ) Bad
+seen r = then_do r (λ r. Ok (r.0, r.1.now))
+
+-- what calls come to that are read one after another, and at most so many
+module _ (policy : Policy) (room : ℕ) where
+  abbrev pub with_read : State → Result (Call × List ℕ) Bad → (Call → List ℕ → Course) → Course
+  with_read s (Ok r) f = f r.0 r.1
+  with_read s (Err b) f = over_at s.moment (Err b)
+
+  abbrev pub course_at : ℕ → State → List ℕ → ℕ → Course
+  course_at zero s bs n = over_at s.moment (Ok tt)
+  course_at (suc most) s bs n = cond (length bs == 0) (over_at s.moment (Ok tt)) (with_read s (call_at bs) (λ c rest. with_call policy room s c n (λ s' n'. course_at most s' rest n')))

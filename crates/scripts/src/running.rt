@@ -1,8 +1,17 @@
 // A script, run from its head to its end.
-ghost use Rattle.std.specs.Prelude.{◌≡◌, Ok};
-ghost use Rattle.scripts.specs.Forms.{then_do, calls_at, script_at};
-ghost use Rattle.scripts.specs.Readers.{whether};
-ghost use Rattle.scripts.specs.Ended.{Ends};
+ghost use Rattle.std.specs.Prelude.{◌≡◌, ℕ, ◌≤◌, List, Ok, Err, length};
+ghost use Rattle.book.specs.States.{policy_of, state_of};
+ghost use Rattle.scripts.specs.Forms.{calls_at, script_at};
+ghost use Rattle.scripts.specs.Readers.{whether, to_run, seen, course_at};
+ghost use Rattle.promise.specs.Histories.{beginning};
+ghost use Rattle.scripts.specs.declared.bad.Bad.{Bad as BadScript};
+ghost use Rattle.scripts.specs.Made.{MadeAll, Over, RanOn};
+ghost use Rattle.scripts.specs.declared.head.Kept.TheVariants.{Roll as OnRoll, Strip as OnStrip, RollAndStrip as OnRollAndStrip, StripAndRoll as OnStripAndRoll};
+ghost use Rattle.scripts.specs.Pages.{Put, PutBefore};
+ghost use Rattle.scripts.specs.Told.{as_8, told_journal};
+ghost use Rattle.scripts.specs.Forms.{Call as Called};
+ghost use Rattle.scripts.specs.Runs.{policy_named};
+ghost use Rattle.scripts.specs.Ended.{Ran, Ends};
 
 use crate::bad::Bad;
 use crate::head::{Head, Kept, Rule, read_head};
@@ -29,114 +38,191 @@ fn check_calls(reader: &mut Reader<'_>, most: usize) -> Result<(), Bad>
     Ok(())
 }
 
-// The head of a script that can be read in whole. No call is shorter than a byte.
-fn check(script: &[u8]) -> Result<Head, Bad>
-    ensures { result ≡ then_do (script_at script.now) (λ s. Ok s.0) }
+// The head of a script that can be read in whole, and the bytes of its calls. No call is shorter than a byte.
+fn check(script: &[u8]) -> Result<(Head, &[u8]), Bad>
+    ensures { seen result ≡ to_run script.now }
 {
     let mut reader = Reader::new(script);
     let head = read_head(&mut reader)?;
-    check_calls(&mut reader, script.len())?;
-    Ok(head)
+    let calls = reader.rest();
+    check_calls(&mut reader, calls.len())?;
+    Ok((head, calls))
 }
 
+// Makes the calls, and puts on the page what each is told.
 fn run_calls<J: Journal, P: Policy>(
     book: &mut Book<J, P>,
-    reader: &mut Reader<'_>,
-    length: usize,
+    calls: &[u8],
     page: &mut Page<'_>,
-) -> Result<(), Bad> {
-    read_head(reader)?;
+) -> Result<(), Bad>
+    requires { page.old.next ≤ length page.old.bytes.now }
+    ensures { MadeAll J.Journal P.Policy book.old (course_at (policy_of J.Journal P.Policy book.old) (length page.old.bytes.now) (length calls.now) (state_of J.Journal P.Policy book.old) calls.now page.old.next) page.old result book.new page.new }
+{
+    let mut reader = Reader::new(calls);
     let mut orders = [NO_ORDER; ORDERS];
-    for _call in 0..length {
+    for _call in 0..calls.len() {
         if reader.is_done() {
             return Ok(());
         }
-        let step = read_step(reader, &mut orders)?;
+        let step = read_step(&mut reader, &mut orders)?;
         make(book, &step, &orders, page)?;
     }
     Ok(())
 }
 
-// All calls on a book over this journal, and then the journal, shown and given back.
+// Shows the journal where the calls went through.
+fn show_end<J: Journal>(page: &mut Page<'_>, ended: Result<(), Bad>, journal: &J) -> Result<(), Bad>
+    ensures same { page.new.bytes.ghost_name ≡ page.old.bytes.ghost_name }
+    ensures through { ended ≡ Ok tt → PutBefore page.old (told_journal (J.Journal.entries journal.now) (J.Journal.spare journal.now)) 8 result page.new }
+    ensures cut { (b : BadScript) → ended ≡ Err b → (result ≡ Err b) × (page.new ≡ page.old) }
+{
+    match ended {
+        Ok(()) => show_journal(page, journal),
+        Err(bad) => Err(bad),
+    }
+}
+
+// All calls on a book over this journal; then the journal, shown where they went through.
 fn run_over<J: Journal + Drop, P: Policy + Drop>(
     journal: J,
     policy: P,
-    script: &[u8],
+    calls: &[u8],
     page: &mut Page<'_>,
-) -> Result<J, Bad> {
+) -> (J, Result<(), Bad>)
+    requires { page.old.next ≤ length page.old.bytes.now }
+    ensures { Over J.Journal journal (course_at (P.Policy.admits policy) (length page.old.bytes.now) (length calls.now) (beginning J.Journal (P.Policy.admits policy) journal) calls.now page.old.next) page.old result.0 result.1 page.new }
+{
     let mut book = Book::create(journal, policy);
-    run_calls(&mut book, &mut Reader::new(script), script.len(), page)?;
+    let ended = run_calls(&mut book, calls, page);
     let (journal, _) = book.close();
-    show_journal(page, &journal)?;
-    Ok(journal)
+    let ended = show_end(page, ended, &journal);
+    (journal, ended)
 }
 
-// One function for each kind of journal, and none of them inlined, so that only one book takes room on the stack. The
-// answer is how much of the strip is in use.
-#[inline(never)]
-fn run_on_roll<P: Policy + Drop>(
-    policy: P,
-    script: &[u8],
-    page: &mut Page<'_>,
-) -> Result<usize, Bad> {
-    let _roll = run_over(Roll::new(), policy, script, page)?;
-    Ok(0)
+// Shows how much of a strip is in use, where the journal was shown.
+fn show_used(page: &mut Page<'_>, shown: Result<(), Bad>, used: usize) -> Result<(), Bad>
+    ensures same { page.new.bytes.ghost_name ≡ page.old.bytes.ghost_name }
+    ensures through { shown ≡ Ok tt → Put page.old (as_8 used) result page.new }
+    ensures cut { (b : BadScript) → shown ≡ Err b → (result ≡ Err b) × (page.new ≡ page.old) }
+{
+    match shown {
+        Ok(()) => page.put(&[&(used as u64).to_be_bytes()]),
+        Err(bad) => Err(bad),
+    }
 }
 
+// One function for each kind of journal, and none of them inlined, so that only one book takes room on the stack. Those
+// over a strip give its memory back.
 #[inline(never)]
-fn run_on_strip<P: Policy + Drop>(
-    strip: Strip<'_>,
-    policy: P,
-    script: &[u8],
-    page: &mut Page<'_>,
-) -> Result<usize, Bad> {
-    Ok(run_over(strip, policy, script, page)?.used())
-}
-
-#[inline(never)]
-fn run_on_roll_and_strip<P: Policy + Drop>(
-    strip: Strip<'_>,
-    policy: P,
-    script: &[u8],
-    page: &mut Page<'_>,
-) -> Result<usize, Bad> {
-    let journal = Mirror::new(Roll::new(), strip);
-    let (_roll, strip) = run_over(journal, policy, script, page)?.apart();
-    Ok(strip.used())
+fn run_on_roll<P: Policy + Drop>(policy: P, calls: &[u8], page: &mut Page<'_>) -> Result<(), Bad>
+    requires { page.old.next ≤ length page.old.bytes.now }
+    ensures { (m : List ℕ) (u : ℕ) → RanOn (P.Policy.admits policy) m u OnRoll calls.now page.old result page.new m }
+{
+    let (_roll, shown) = run_over(Roll::new(), policy, calls, page);
+    show_used(page, shown, 0)
 }
 
 #[inline(never)]
-fn run_on_strip_and_roll<P: Policy + Drop>(
-    strip: Strip<'_>,
+fn run_on_strip<'a, P: Policy + Drop>(
+    memory: &'a mut [u8],
+    used: usize,
     policy: P,
-    script: &[u8],
+    calls: &[u8],
     page: &mut Page<'_>,
-) -> Result<usize, Bad> {
-    let journal = Mirror::new(strip, Roll::new());
-    let (strip, _roll) = run_over(journal, policy, script, page)?.apart();
-    Ok(strip.used())
+) -> (&'a mut [u8], Result<(), Bad>)
+    requires { page.old.next ≤ length page.old.bytes.now }
+    ensures home { result.0.ghost_name ≡ memory.entry.ghost_name }
+    ensures ran { RanOn (P.Policy.admits policy) memory.old used OnStrip calls.now page.old result.1 page.new result.0.now }
+{
+    let (strip, shown) = run_over(Strip::make(memory, used), policy, calls, page);
+    let ended = show_used(page, shown, strip.used());
+    (strip.give_back(), ended)
+}
+
+#[inline(never)]
+fn run_on_roll_and_strip<'a, P: Policy + Drop>(
+    memory: &'a mut [u8],
+    used: usize,
+    policy: P,
+    calls: &[u8],
+    page: &mut Page<'_>,
+) -> (&'a mut [u8], Result<(), Bad>)
+    requires { page.old.next ≤ length page.old.bytes.now }
+    ensures home { result.0.ghost_name ≡ memory.entry.ghost_name }
+    ensures ran { RanOn (P.Policy.admits policy) memory.old used OnRollAndStrip calls.now page.old result.1 page.new result.0.now }
+{
+    let journal = Mirror::new(Roll::new(), Strip::make(memory, used));
+    let (mirror, shown) = run_over(journal, policy, calls, page);
+    let (_roll, strip) = mirror.apart();
+    let ended = show_used(page, shown, strip.used());
+    (strip.give_back(), ended)
+}
+
+#[inline(never)]
+fn run_on_strip_and_roll<'a, P: Policy + Drop>(
+    memory: &'a mut [u8],
+    used: usize,
+    policy: P,
+    calls: &[u8],
+    page: &mut Page<'_>,
+) -> (&'a mut [u8], Result<(), Bad>)
+    requires { page.old.next ≤ length page.old.bytes.now }
+    ensures home { result.0.ghost_name ≡ memory.entry.ghost_name }
+    ensures ran { RanOn (P.Policy.admits policy) memory.old used OnStripAndRoll calls.now page.old result.1 page.new result.0.now }
+{
+    let journal = Mirror::new(Strip::make(memory, used), Roll::new());
+    let (mirror, shown) = run_over(journal, policy, calls, page);
+    let (strip, _roll) = mirror.apart();
+    let ended = show_used(page, shown, strip.used());
+    (strip.give_back(), ended)
 }
 
 // Over the journal that the head names.
 fn run_by<P: Policy + Drop>(
     head: &Head,
     policy: P,
-    script: &[u8],
+    calls: &[u8],
     memory: &mut [u8],
     page: &mut Page<'_>,
-) -> Result<(), Bad> {
-    let used = match head.kept {
-        Kept::Roll => run_on_roll(policy, script, page)?,
-        Kept::Strip => run_on_strip(Strip::make(memory, head.used), policy, script, page)?,
-        Kept::RollAndStrip => {
-            run_on_roll_and_strip(Strip::make(memory, head.used), policy, script, page)?
+) -> Result<(), Bad>
+    requires { page.old.next ≤ length page.old.bytes.now }
+    ensures { RanOn (P.Policy.admits policy) memory.old head.now.used head.now.kept calls.now page.old result page.new memory.new }
+{
+    match head.kept {
+        Kept::Roll => run_on_roll(policy, calls, page),
+        Kept::Strip => run_on_strip(memory, head.used, policy, calls, page).1,
+        Kept::RollAndStrip => run_on_roll_and_strip(memory, head.used, policy, calls, page).1,
+        Kept::StripAndRoll => run_on_strip_and_roll(memory, head.used, policy, calls, page).1,
+    }
+}
+
+// Under the policy that the head names.
+fn run_under(head: &Head, calls: &[u8], memory: &mut [u8], page: &mut Page<'_>) -> Result<(), Bad>
+    requires { page.old.next ≤ length page.old.bytes.now }
+    ensures { RanOn (policy_named head.now.rule) memory.old head.now.used head.now.kept calls.now page.old result page.new memory.new }
+{
+    match head.rule {
+        Rule::One(shape) => run_by(head, shape, calls, memory, page),
+        Rule::ByClass { below, class, from } => {
+            run_by(head, ByClass { below, class, from }, calls, memory, page)
         }
-        Kept::StripAndRoll => {
-            run_on_strip_and_roll(Strip::make(memory, head.used), policy, script, page)?
-        }
-    };
-    page.u64(used as u64);
-    Ok(())
+    }
+}
+
+// The output again, how many of its bytes were written, and how it ended.
+fn run_onto<'a>(
+    head: &Head,
+    calls: &[u8],
+    memory: &mut [u8],
+    output: &'a mut [u8],
+) -> (&'a mut [u8], usize, Result<(), Bad>)
+    ensures home { result.0.ghost_name ≡ output.entry.ghost_name }
+    ensures ran { (cs : List Called) → calls_at (length calls.now) calls.now ≡ Ok cs → Ran head.now cs memory.old output.old (result.1, result.2) memory.new result.0.now }
+{
+    let mut page = Page::new(output);
+    let ended = run_under(head, calls, memory, &mut page);
+    let written = page.written();
+    (page.give_back(), written, ended)
 }
 
 // Runs a script on a new book, over the memory where it has a strip; how many bytes of the output it wrote, and how it
@@ -144,18 +230,11 @@ fn run_by<P: Policy + Drop>(
 pub fn run(script: &[u8], memory: &mut [u8], output: &mut [u8]) -> (usize, Result<(), Bad>)
     ensures { Ends (script_at script.now) memory.old output.old result memory.new output.new }
 {
-    let head = match check(script) {
-        Ok(head) => head,
-        Err(bad) => return (0, Err(bad)),
-    };
-    let mut page = Page::new(output);
-    let ended = match head.rule {
-        Rule::One(shape) => run_by(&head, shape, script, memory, &mut page),
-        Rule::ByClass { below, class, from } => {
-            let policy = ByClass { below, class, from };
-            run_by(&head, policy, script, memory, &mut page)
-        }
-    };
-    // The whole script was read before, so only room can be short now.
-    (page.written(), ended.map_err(|_| Bad::Output))
+    match check(script) {
+        Ok((head, calls)) => {
+            let (_output, written, ended) = run_onto(&head, calls, memory, output);
+            (written, ended)
+        },
+        Err(bad) => (0, Err(bad)),
+    }
 }

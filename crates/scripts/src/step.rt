@@ -1,6 +1,6 @@
 // One call of a script.
-ghost use Rattle.std.specs.Prelude.{◌≡◌, ◌≤◌, Ok, take};
-ghost use Rattle.scripts.specs.Readers.{with_list};
+ghost use Rattle.std.specs.Prelude.{◌≡◌, ◌≤◌, Ok, IfOk, take};
+ghost use Rattle.scripts.specs.Readers.{with_list, Within};
 ghost use Rattle.scripts.specs.Forms.{then_do, orders_at, batch_at, call_at, with_next, behind, at_most, opening_of, action_of, order_of};
 
 use crate::bad::Bad;
@@ -37,7 +37,8 @@ pub const NO_ORDER: Order = Order {
 
 // The length of a list, where it is no longer than allowed.
 fn at_most(most: usize, length: usize) -> Result<usize, Bad>
-    ensures { result ≡ at_most most length }
+    ensures length { result ≡ at_most most length }
+    ensures within { IfOk result (λ n. n ≤ most) }
 {
     if length > most {
         return Err(Bad::List);
@@ -121,7 +122,8 @@ fn read_orders(reader: &mut Reader<'_>, list: &mut [Order; ORDERS], count: usize
 }
 
 fn read_batch(reader: &mut Reader<'_>, list: &mut [Order; ORDERS]) -> Result<Step, Bad>
-    ensures { then_do result (λ s. Ok (with_list list.new s, reader.new.rest.now)) ≡ batch_at reader.old.rest.now }
+    ensures batch { then_do result (λ s. Ok (with_list list.new s, reader.new.rest.now)) ≡ batch_at reader.old.rest.now }
+    ensures within { IfOk result Within }
 {
     let orders = at_most(ORDERS, usize::from(reader.u8()?))?;
     let answers = at_most(ANSWERS, usize::from(reader.u8()?))?;
@@ -131,7 +133,8 @@ fn read_batch(reader: &mut Reader<'_>, list: &mut [Order; ORDERS]) -> Result<Ste
 
 // The next call; the orders of a batch stand at the front of the list then.
 pub fn read_step(reader: &mut Reader<'_>, list: &mut [Order; ORDERS]) -> Result<Step, Bad>
-    ensures { then_do result (λ s. Ok (with_list list.new s, reader.new.rest.now)) ≡ call_at reader.old.rest.now }
+    ensures call { then_do result (λ s. Ok (with_list list.new s, reader.new.rest.now)) ≡ call_at reader.old.rest.now }
+    ensures within { IfOk result Within }
 {
     match reader.u8()? {
         1 => Ok(Step::Open(opening_of(&reader.take()?))),

@@ -1,0 +1,10 @@
+use Rattle.std.proofs.Common.{subst}
+use Rattle.meaning.specs.Rows.{standing_of}
+use Rattle.scripts.specs.Pages.{Put}
+use Rattle.scripts.proofs.Telling.{account_in_parts}
+use Rattle.scripts.proofs.showing.show_statement.Goals as goal
+
+pub returns-clause-put : goal.returns-clause-put
+returns-clause-put c =
+    let e = account_in_parts (standing_of c.args.account.now) _ _ _ _ _ _ _ _ c.to_be_bytes.ensures c.to_be_bytes-2.ensures c.to_be_bytes-3.ensures c.to_be_bytes-4.ensures c.to_be_bytes-5.ensures c.to_be_bytes-6.ensures c.to_be_bytes-7.ensures c.to_be_bytes-8.ensures in
+    subst (λ xs. Put c.args.page.now xs c.put.result c.put.new.self) e c.put.ensures.put

@@ -1,0 +1,30 @@
+-- The output: bytes one after another, as far as there is room.
+use Rattle.std.specs.Prelude.{◌≡◌, ℕ, ◌+◌, List, ◌++◌, length, take, drop, Ok, Err, Result, nat_le, cond, flat_map}
+use Rattle.std.specs.Borrow.{Bor}
+use Rattle.scripts.specs.declared.bad.Bad.{Bad}
+use Rattle.scripts.specs.declared.bad.Bad.TheVariants.{Output}
+use Rattle.scripts.specs.declared.page.Page.{Page}
+
+-- parts, one behind the other
+abbrev pub joined : List (Bor (List ℕ)) → List ℕ
+joined parts = flat_map (λ p. p.now) parts
+
+-- bytes with others in the place from n on
+abbrev pub laid : ℕ → List ℕ → List ℕ → List ℕ
+laid n new bs = take n bs ++ (new ++ drop (n + length new) bs)
+
+-- one of two things, by whether so many bytes more fit
+abbrev pub if_room : {X : Type 0} → Page → ℕ → X → X → X
+if_room p n x y = cond (nat_le (p.next + n) (length p.bytes.now)) x y
+
+-- these bytes were put behind those that were written, or there was no room for all of them and nothing has changed
+pub record Put (p : Page) (new : List ℕ) (r : Result (Unit {0}) Bad) (p' : Page) : Type 0 where
+  pub answer : r ≡ if_room p (length new) (Ok tt) (Err Output)
+  pub bytes : p'.bytes.now ≡ if_room p (length new) (laid p.next new p.bytes.now) p.bytes.now
+  pub next : p'.next ≡ if_room p (length new) (p.next + length new) p.next
+
+-- the same, where so many bytes more are to fit behind them
+pub record PutBefore (p : Page) (new : List ℕ) (more : ℕ) (r : Result (Unit {0}) Bad) (p' : Page) : Type 0 where
+  pub answer : r ≡ if_room p (length new + more) (Ok tt) (Err Output)
+  pub bytes : p'.bytes.now ≡ if_room p (length new + more) (laid p.next new p.bytes.now) p.bytes.now
+  pub next : p'.next ≡ if_room p (length new + more) (p.next + length new) p.next
