@@ -1,78 +1,62 @@
-//! How long the proved engine takes for orders and for reading, beside the second engine. Both run the same scripts;
-//! lists and buffers are filled before each call, as scripts say.
-mod proved;
+//! How long engines take for the same scripts: the proved engine, one in safe Rust that is written to be fast, the plain
+//! second one, and one in Java, which is measured by its own program in the same way.
+//!
+//! In the time is one whole run from the script's bytes to the output's: the script is checked and read, the book is
+//! made, each list is filled as scripts say before its call, all calls are made, records are written to the strip's
+//! memory, and the answers and the journal at the end are written to the output. It holds for all engines alike.
+//! Outside the time stand the making of script, memory and output. Before each run the memory is put back to what the
+//! case begins with, which also brings it near the processor, for all engines alike; the output is not cleared, as
+//! every byte that counts is written. Before it is measured, each engine must give the output and the memory of the
+//! proved one in every byte.
+
+mod cases;
+mod engines;
+mod files;
+mod measure;
 mod workload;
 
-use std::time::Instant;
-use workload::{memory, pairs, reading, transfers};
+use std::path::Path;
 
-const OUTPUT: usize = 1 << 22;
-
-fn second(script: &[u8], memory: &mut [u8], output: &mut [u8]) -> usize {
-    let (code, told) = script::run(script, memory, output.len());
-    assert_eq!(code, 0);
-    told.len()
-}
-
-type Engine = fn(&[u8], &mut [u8], &mut [u8]) -> usize;
-
-/// The shortest of some runs, in nanoseconds.
-fn shortest(engine: Engine, script: &[u8], strip: &[u8], runs: usize) -> f64 {
-    let mut output = vec![0; OUTPUT];
-    let mut best = f64::INFINITY;
-    for _ in 0..runs {
-        let mut memory = strip.to_vec();
-        let start = Instant::now();
-        engine(script, &mut memory, &mut output);
-        best = best.min(start.elapsed().as_nanos() as f64);
-    }
-    best
-}
-
-fn line(what: &str, count: usize, first: f64, second: Option<f64>) {
-    let other = second.map_or("-".to_string(), |ns| format!("{:.0}", ns / count as f64));
-    println!("{what} | {count} | {:.0} | {other}", first / count as f64);
-}
-
-fn compare(what: &str, count: usize, script: &[u8], strip: &[u8], both: bool) {
-    let first = shortest(proved::run, script, strip, 20);
-    let other = both.then(|| shortest(second, script, strip, 3));
-    line(what, count, first, other);
-}
-
-/// One run of the proved engine, to count instructions by.
-fn once(count: usize) {
-    let mut strip = memory(count + 2);
-    let mut output = vec![0; OUTPUT];
-    proved::run(&transfers(count), &mut strip, &mut output);
-}
+const USAGE: &str = "usage: bench write|measure|table FOLDER, or bench once ENGINE FOLDER CASE";
 
 fn main() {
-    if let Some(count) = std::env::args().nth(1) {
-        return once(count.parse().expect("how many transfers"));
+    let words: Vec<String> = std::env::args().skip(1).collect();
+    let words: Vec<&str> = words.iter().map(String::as_str).collect();
+    match words[..] {
+        ["write", folder] => files::write_cases(folder.as_ref()),
+        ["measure", folder] => measure_all(folder.as_ref()),
+        ["table", folder] => print_table(folder.as_ref()),
+        ["once", engine, folder, case] => once(engine, folder.as_ref(), case),
+        _ => panic!("{USAGE}"),
     }
-    println!("what | how many | proved, ns each | second engine, ns each");
-    for count in [10, 100, 1_000, 10_000, 40_000] {
-        compare(
-            "transfers",
-            count,
-            &transfers(count),
-            &memory(count + 2),
-            count <= 1_000,
-        );
+}
+
+fn measure_all(folder: &Path) {
+    for case in cases::all() {
+        for (engine, ns) in measure::measure(&case) {
+            files::add_result(folder, engine, &case, ns);
+        }
     }
-    compare("reserve and post", 256, &pairs(256), &memory(514), true);
-    for count in [1_000, 40_000] {
-        let mut strip = memory(count + 2);
-        let mut output = vec![0; OUTPUT];
-        proved::run(&transfers(count), &mut strip, &mut output);
-        let used = strip.len();
-        compare(
-            "entries read",
-            count + 2,
-            &reading(used),
-            &strip,
-            count <= 1_000,
-        );
+}
+
+/// Nanoseconds for each order, pair or entry.
+fn print_table(folder: &Path) {
+    println!("| what | how many | proved | fast safe Rust | plain Rust | Java |");
+    println!("|---|---|---|---|---|---|");
+    for case in cases::all() {
+        let each = engines::NAMES.into_iter().chain(["java"]).map(|engine| {
+            let best = files::best_result(folder, engine, &case);
+            best.map_or("not run".to_string(), |ns| format!("{:.1}", ns / case.count as f64))
+        });
+        let each: Vec<_> = each.collect();
+        println!("| {} | {} | {} |", case.what, case.count, each.join(" | "));
     }
+}
+
+/// One run, to count instructions by.
+fn once(engine: &str, folder: &Path, name: &str) {
+    let (script, mut memory) = files::read_case(folder, name);
+    let mut output = vec![0; cases::OUTPUT];
+    let (code, _) = engines::engine(engine)(&script, &mut memory, &mut output);
+    assert_eq!(code, 0);
 }

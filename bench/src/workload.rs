@@ -41,14 +41,7 @@ pub fn transfers(count: usize) -> Vec<u8> {
     open(&mut script, 1);
     open(&mut script, 2);
     batches(&mut script, count, |script, place| {
-        order(
-            script,
-            place + 1,
-            2,
-            1 + place as u32 % 2,
-            2 - place as u32 % 2,
-            3,
-        );
+        order(script, place + 1, 2, 1 + place as u32 % 2, 2 - place as u32 % 2, 3);
     });
     script
 }
@@ -73,4 +66,9 @@ pub fn reading(used: usize) -> Vec<u8> {
 /// Room for so many records.
 pub fn memory(records: usize) -> Vec<u8> {
     vec![0; 1 + 48 * records]
+}
+
+/// No call, on a new strip.
+pub fn empty() -> Vec<u8> {
+    head(0)
 }

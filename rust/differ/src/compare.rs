@@ -5,7 +5,6 @@ use crate::engines::Engine;
 
 /// Bytes before and after the memory and the output that nobody may touch.
 const GUARD: usize = 64;
-/// The code for an output that is too short.
 
 /// What came of a case on one engine. Memory and output have their guards.
 #[derive(Clone, Debug, PartialEq, Eq)]

@@ -1,13 +1,10 @@
 //! Runs scripts on two engines of the water book and compares all that comes of them.
-#![deny(unsafe_code)]
+#![forbid(unsafe_code)]
 
 mod args;
 mod case;
 mod compare;
 mod engines;
-#[cfg(water_book)]
-#[allow(unsafe_code)]
-mod foreign;
 mod make;
 mod plan;
 mod rng;
@@ -19,11 +16,13 @@ mod told;
 use crate::args::{Args, USAGE};
 use crate::case::Case;
 use crate::compare::{difference, run, Difference, Ran};
-use crate::engines::{Engine, Second};
+use crate::engines::{Engine, Fast, First, Second};
 use crate::make::Source;
 use crate::tally::Tally;
 use std::process::ExitCode;
 use std::time::Instant;
+
+type Engines<'e> = [&'e dyn Engine; 2];
 
 fn main() -> ExitCode {
     let args = match Args::parse(std::env::args().skip(1)) {
@@ -33,24 +32,22 @@ fn main() -> ExitCode {
             return ExitCode::from(2);
         }
     };
+    let second: &dyn Engine = if args.fast { &Fast } else { &Second };
     if args.with_itself {
-        return compare_all(&args, &Second);
+        return compare_all(&args, &Second, second);
     }
-    compare_with_first(&args)
+    match hub::RUN {
+        Some(run) => compare_all(&args, &First(run), second),
+        None => {
+            eprintln!(
+                "built without the library: set WATER_BOOK_LIB and build again, or use --self"
+            );
+            ExitCode::from(2)
+        }
+    }
 }
 
-#[cfg(water_book)]
-fn compare_with_first(args: &Args) -> ExitCode {
-    compare_all(args, &foreign::First)
-}
-
-#[cfg(not(water_book))]
-fn compare_with_first(_: &Args) -> ExitCode {
-    eprintln!("built without the library: set WATER_BOOK_LIB and build again, or use --self");
-    ExitCode::from(2)
-}
-
-fn compare_all(args: &Args, first: &dyn Engine) -> ExitCode {
+fn compare_all(args: &Args, first: &dyn Engine, second: &dyn Engine) -> ExitCode {
     let start = Instant::now();
     let is_late = || args.time.is_some_and(|time| start.elapsed() >= time);
     let mut source = Source::new(args.seed);
@@ -58,28 +55,27 @@ fn compare_all(args: &Args, first: &dyn Engine) -> ExitCode {
     while tally.calls() < args.calls && !is_late() {
         let case = source.next();
         let script = case.script();
-        let (found, _, second) = compare(first, &script, &case);
+        let (found, _, ran) = compare([first, second], &script, &case);
         if found.is_some() {
-            report(first, case);
+            report([first, second], case);
             return ExitCode::from(1);
         }
-        source.spend(tally.add(&script, second.code, second.told()));
+        source.spend(tally.add(&script, ran.code, ran.told()));
     }
     println!("{}", tally.line(start.elapsed().as_secs_f64()));
     ExitCode::SUCCESS
 }
 
-fn compare(first: &dyn Engine, script: &[u8], case: &Case) -> (Option<Difference>, Ran, Ran) {
-    let one = run(first, script, case);
-    let two = run(&Second, script, case);
+fn compare(engines: Engines, script: &[u8], case: &Case) -> (Option<Difference>, Ran, Ran) {
+    let [one, two] = engines.map(|engine| run(engine, script, case));
     (difference(&one, &two), one, two)
 }
 
 /// Shrinks and shows a case that differs.
-fn report(first: &dyn Engine, case: Case) {
-    let differs = |case: &Case| compare(first, &case.script(), case).0.is_some();
+fn report(engines: Engines, case: Case) {
+    let differs = |case: &Case| compare(engines, &case.script(), case).0.is_some();
     let case = shrink::shrink(case, differs);
-    let (found, one, two) = compare(first, &case.script(), &case);
+    let (found, one, two) = compare(engines, &case.script(), &case);
     if let Some(difference) = found {
         show::show(&case, difference, &one, &two);
     }

@@ -1,5 +1,6 @@
-//! The proved engine, behind its C interface.
+use std::ffi::c_uint;
 
+#[link(name = "hub", kind = "static")]
 extern "C" {
     fn water_book_run(
         script: *const u8,
@@ -9,12 +10,13 @@ extern "C" {
         output: *mut u8,
         output_len: usize,
         written: *mut u64,
-    ) -> u32;
+    ) -> c_uint;
 }
 
-pub fn run(script: &[u8], memory: &mut [u8], output: &mut [u8]) -> usize {
-    let mut written = 0;
-    // SAFETY: each pointer comes from a slice of the length beside it, and the slices do not overlap.
+pub fn run(script: &[u8], memory: &mut [u8], output: &mut [u8]) -> (u32, u64) {
+    let mut written = u64::MAX;
+    // SAFETY: each pointer comes from a slice of the length beside it, the slices do not
+    // overlap, and `written` is a place for one number; all live until the call returns.
     let code = unsafe {
         water_book_run(
             script.as_ptr(),
@@ -26,6 +28,5 @@ pub fn run(script: &[u8], memory: &mut [u8], output: &mut [u8]) -> usize {
             &mut written,
         )
     };
-    assert_eq!(code, 0);
-    written as usize
+    (code, written)
 }
