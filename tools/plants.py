@@ -22,7 +22,7 @@ Function = collections.namedtuple("Function", "path name public answer lines sta
 # Lines start to end, without end, become new.
 Bug = collections.namedtuple("Bug", "sort start end new")
 
-LIMITS = re.compile(r"ran out of|outgrew the memory limit|stopped at the step limit")
+LIMITS = re.compile(r"ran out of|outgrew the memory limit|stopped at the step limit|does not cover this function")
 # A proof file that names what the bug took away (as `rt must-fail` tells it).
 NAMES = re.compile(r"(note: )?(\./)?proofs/.*(has no field|is not in scope|has no `|was not admitted)")
 
@@ -196,7 +196,7 @@ def verdict(status, text):
         said = re.sub(r"^(note: )?\S+:\d+:\d+: (error: )?|it is not proved that ", "", (facts or told)[0]).split(";")[0]
         beside = ", and a proof file no longer fits" if len(facts) < len(told) else ""
         return (f"refused{beside}" if facts else "only a proof file no longer fits"), said[:100]
-    if status == 124 or status == 3 and LIMITS.search(text):
+    if status == 124 or LIMITS.search(text):
         return "limit", "no verdict in 240 seconds" if status == 124 else LIMITS.search(text)[0]
     return "not known", f"status {status}: {lines[-2][:80] if len(lines) > 1 else ''}"
 
