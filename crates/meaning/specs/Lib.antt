@@ -16,3 +16,4 @@ pub mod Rows
 pub mod Listing
 pub mod Calls
 pub mod Cases
+pub mod Printed

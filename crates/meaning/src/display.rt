@@ -1,6 +1,7 @@
 // How orders, openings and answers are printed.
 ghost use Rattle.std.specs.Prelude.{Some, decimal};
 ghost use Rattle.meaning.specs.Numbers.{number_of};
+ghost use Rattle.meaning.specs.Printed.{fate_text, opening_text, order_text};
 
 use crate::fate::Fate;
 use crate::opening::Opening;
@@ -10,6 +11,8 @@ use std::error::Error;
 use std::fmt;
 
 impl fmt::Display for Order {
+    ghost output = { λ order. Some (order_text order) };
+
     fn fmt<W: fmt::Write>(&self, f: &mut fmt::Formatter<W>) -> fmt::Result {
         let number = self.number;
         match self.action {
@@ -42,6 +45,8 @@ impl fmt::Display for Order {
 }
 
 impl fmt::Display for Opening {
+    ghost output = { λ opening. Some (opening_text opening) };
+
     fn fmt<W: fmt::Write>(&self, f: &mut fmt::Formatter<W>) -> fmt::Result {
         let number = self.number;
         let ledger = self.ledger;
@@ -73,6 +78,8 @@ impl fmt::Display for Refusal {
 impl Error for Refusal {}
 
 impl fmt::Display for Fate {
+    ghost output = { λ fate. Some (fate_text fate) };
+
     fn fmt<W: fmt::Write>(&self, f: &mut fmt::Formatter<W>) -> fmt::Result {
         let word = match *self {
             Fate::Live => "live",
