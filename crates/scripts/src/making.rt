@@ -74,7 +74,7 @@ fn report<J: Journal, P: Policy>(
     show_reported(page, &answer, bytes)
 }
 
-pub fn make<J: Journal, P: Policy>(
+pub(crate) fn make<J: Journal, P: Policy>(
     book: &mut Book<J, P>,
     step: &Step,
     list: &[Order; ORDERS],

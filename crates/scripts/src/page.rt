@@ -58,7 +58,7 @@ impl<'a> Page<'a> {
     }
 
     // Puts a part that fits.
-    pub fn put_one(&mut self, part: &[u8])
+    pub(crate) fn put_one(&mut self, part: &[u8])
         requires { self.old.next + length part.now ≤ length self.old.bytes.now }
         ensures same { self.new.bytes.ghost_name ≡ self.old.bytes.ghost_name }
         ensures bytes { self.new.bytes.now ≡ laid self.old.next part.now self.old.bytes.now }
@@ -70,7 +70,7 @@ impl<'a> Page<'a> {
     }
 
     // Puts parts that fit.
-    pub fn put_each(&mut self, parts: &[&[u8]])
+    pub(crate) fn put_each(&mut self, parts: &[&[u8]])
         requires { self.old.next + length (joined parts.now) ≤ length self.old.bytes.now }
         ensures same { self.new.bytes.ghost_name ≡ self.old.bytes.ghost_name }
         ensures bytes { self.new.bytes.now ≡ laid self.old.next (joined parts.now) self.old.bytes.now }

@@ -37,7 +37,7 @@ fn numbers_of(answers: &[Answer]) -> [u8; ANSWERS]
     numbers
 }
 
-pub fn show_ran(
+pub(crate) fn show_ran(
     page: &mut Page<'_>,
     answer: &Result<usize, Refusal>,
     answers: &[Answer],
@@ -75,7 +75,7 @@ fn parts_of(answer: &Result<Moved, Refusal>) -> (u64, u64)
     }
 }
 
-pub fn show_moved(
+pub(crate) fn show_moved(
     page: &mut Page<'_>,
     answer: &Result<Moved, Refusal>,
     lapses: &[u32],
