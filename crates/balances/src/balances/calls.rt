@@ -25,6 +25,13 @@ impl Balances {
         }
     }
 
+    // Forgets all that they hold.
+    pub fn clear(&mut self)
+        ensures { books_of self.new ≡ empty }
+    {
+        self.tables.clear();
+    }
+
     // One account more, where there is room.
     pub fn open(&mut self, account: Account)
         ensures { books_of self.new ≡ opened_with (standing_of account) (books_of self.old) }

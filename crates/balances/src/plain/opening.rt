@@ -56,6 +56,17 @@ impl Tables {
         }
     }
 
+    // Forgets all that they hold.
+    pub(crate) fn clear(&mut self)
+        ensures { shown self.new ≡ empty }
+    {
+        self.accounts.truncate(0);
+        self.reservations.truncate(0);
+        self.highest = 0;
+        self.queue.truncate(0);
+        self.lines.truncate(0);
+    }
+
     // One account more, and its line, where there is room.
     pub(crate) fn open(&mut self, account: Account)
         ensures { shown self.new ≡ opened_with (standing_of account) (shown self.old) }
