@@ -1,6 +1,6 @@
 // Legs are noted as they are taken, and put back together.
 ghost use Rattle.std.specs.Prelude.{◌≡◌, ◌+◌, ◌<◌};
-ghost use Rattle.balances.specs.Books.{books_of, held_place};
+ghost use Rattle.balances.specs.Books.{books_of};
 ghost use Rattle.balances.specs.Legs.{transferred, reserved, closed};
 ghost use Rattle.balances.specs.Undone.{legs_of, rolled_back};
 
@@ -41,13 +41,12 @@ impl Balances {
         self.tables.reserve(held);
     }
 
-    // Ends a reservation, and posts a part of it.
-    pub(crate) fn close(&mut self, number: u32, reservation: u32, event: Event, part: u64)
-        ensures books { books_of self.new ≡ closed event number (held_place (books_of self.old) reservation) part (books_of self.old) }
+    // Ends the reservation at a place, and posts a part of it.
+    pub(crate) fn close(&mut self, number: u32, slot: usize, event: Event, part: u64)
+        ensures books { books_of self.new ≡ closed event number slot part (books_of self.old) }
         ensures back { legs_of self.old < 16 → rolled_back self.new ≡ rolled_back self.old }
         ensures legs { legs_of self.old < 16 → legs_of self.new ≡ legs_of self.old + 1 }
     {
-        let slot = self.tables.reservation_place(reservation);
         let held = self.tables.reservation_at(slot);
         self.notes
             .note(self.tables.trace(held.debit, held.credit, slot));

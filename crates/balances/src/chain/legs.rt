@@ -85,9 +85,9 @@ impl Chain<'_> {
         ensures books { books_of self.new.balances.now ≡ (if is_ok result then closed Post number (held_place (books_of self.old.balances.now) reservation) amount (books_of self.old.balances.now) else books_of self.old.balances.now) }
     {
         let balances = &mut *self.balances;
-        balances.tables.check_post(number, reservation, amount)?;
+        let slot = balances.tables.check_post(number, reservation, amount)?;
         balances.notes.check_legs()?;
-        balances.close(number, reservation, Event::Post, amount);
+        balances.close(number, slot, Event::Post, amount);
         Ok(())
     }
 
@@ -98,9 +98,9 @@ impl Chain<'_> {
         ensures books { books_of self.new.balances.now ≡ (if is_ok result then closed Void number (held_place (books_of self.old.balances.now) reservation) 0 (books_of self.old.balances.now) else books_of self.old.balances.now) }
     {
         let balances = &mut *self.balances;
-        balances.tables.check_void(number, reservation)?;
+        let (slot, _) = balances.tables.check_void(number, reservation)?;
         balances.notes.check_legs()?;
-        balances.close(number, reservation, Event::Void, 0);
+        balances.close(number, slot, Event::Void, 0);
         Ok(())
     }
 }

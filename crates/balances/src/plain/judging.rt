@@ -1,7 +1,7 @@
 // Which legs the tables refuse.
 ghost use Rattle.std.specs.Prelude.{◌≡◌, IfOk};
 ghost use Rattle.balances.specs.Shown.{shown};
-ghost use Rattle.balances.specs.Contents.{held_asked};
+ghost use Rattle.balances.specs.Contents.{held_place, held_asked};
 ghost use Rattle.meaning.specs.Rows.{standing_of};
 ghost use Rattle.balances.specs.Judged.{refusal_in, number_judged, amount_judged, pair_judged, room_judged, fate_judged, part_of_judged, void_judged, post_judged};
 
@@ -78,17 +78,24 @@ impl Tables {
         Ok(())
     }
 
-    // The reservation of a number, which may be closed.
-    pub(crate) fn check_void(&self, number: u32, reservation: u32) -> Result<Reservation, Refusal>
+    // The place of a reservation that may be closed, and what stands there. Who closes it need not look for it again.
+    pub(crate) fn check_void(
+        &self,
+        number: u32,
+        reservation: u32,
+    ) -> Result<(usize, Reservation), Refusal>
         ensures answer { refusal_in result ≡ void_judged number reservation (shown self.now) }
-        ensures found { IfOk result (λ held. held_asked (shown self.now) reservation ≡ Some held) }
+        ensures place { IfOk result (λ f. f.0 ≡ held_place (shown self.now) reservation) }
+        ensures found { IfOk result (λ f. held_asked (shown self.now) reservation ≡ Some f.1) }
     {
         self.check_number(number)?;
+        let slot = self.reservation_place(reservation);
         let held = self
-            .reservation(reservation)
+            .reservations
+            .get(slot)
             .ok_or(Refusal::ReservationUnknown)?;
         check_fate(held.fate)?;
-        Ok(held)
+        Ok((slot, held))
     }
 
     // The same by a post of so much.
@@ -97,10 +104,12 @@ impl Tables {
         number: u32,
         reservation: u32,
         amount: u64,
-    ) -> Result<(), Refusal>
-        ensures { refusal_in result ≡ post_judged number reservation amount (shown self.now) }
+    ) -> Result<usize, Refusal>
+        ensures answer { refusal_in result ≡ post_judged number reservation amount (shown self.now) }
+        ensures place { IfOk result (λ slot. slot ≡ held_place (shown self.now) reservation) }
     {
-        let held = self.check_void(number, reservation)?;
-        check_part(held.amount, amount)
+        let (slot, held) = self.check_void(number, reservation)?;
+        check_part(held.amount, amount)?;
+        Ok(slot)
     }
 }

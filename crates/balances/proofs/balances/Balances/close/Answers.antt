@@ -9,7 +9,7 @@ use Rattle.balances.proofs.balances.Balances.close.Goals as goal
 pub returns-clause-back : goal.returns-clause-back
 returns-clause-back c =
     let k = books_of c.args.self.now in
-    let i = c.reservation_place-slot.result in
+    let i = c.args.slot in
     let R = get_or k.held i no_reservation in
     let traced = c.trace.ensures ∙ ap (λ (Q : Reservation). tracing Q.debit Q.credit i k) c.reservation_at-held.ensures in
     λ room. leg_back c.args.self.now.notes _ _ (tracing R.debit R.credit i k) k _ _ c.note.ensures traced c.close.ensures room (close_back k _ c.args.event c.args.number i c.args.part)
