@@ -1,4 +1,4 @@
-// The tables of a book, and what an open chain notes of them. Beside the struct stands nothing that names it in specs/.
+// The tables of a book, and what an open chain notes of them. Their functions stand in modules below, since definitions name this struct.
 ghost use Rattle.balances.specs.Contents.{Few};
 ghost use Rattle.balances.specs.Shown.{shown};
 

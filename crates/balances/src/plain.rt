@@ -1,5 +1,5 @@
 // The plain tables: accounts and reservations as they came, the keys of live deadlines and of the listing in order.
-// Beside the struct stands nothing that names it in specs/.
+// Their functions stand in modules below, since definitions name this struct.
 use meaning::limits::{ACCOUNTS, RESERVATIONS};
 use meaning::{Account, Reservation};
 use ordered::{Due, Line, Row};

@@ -1,5 +1,5 @@
-// A book owns its journal and its policy, and keeps the tables that the journal's entries make. Beside the struct
-// stands nothing that names it in specs/.
+// A book owns its journal and its policy, and keeps the tables that the journal's entries make. Its functions stand in
+// modules below, since definitions name this struct.
 ghost use Rattle.std.specs.Prelude.{◌≡◌, ◌≤◌};
 ghost use Rattle.meaning.specs.Reading.{reading as reading_of};
 ghost use Rattle.balances.specs.Books.{books_of};

@@ -3,6 +3,8 @@ use Rattle.std.specs.Prelude.{◌≡◌, ℕ, Bool, true, false, ◌&&◌, List,
 use Rattle.meaning.specs.declared.order.Order.{Order}
 use Rattle.meaning.specs.declared.order.Action.{Action}
 use Rattle.meaning.specs.declared.order.Action.TheVariants.{Transfer, Reserve, Post}
+use Rattle.meaning.specs.declared.fate.Fate.{Fate}
+use Rattle.meaning.specs.declared.fate.Fate.TheVariants.{Live, Posted, Voided, Lapsed}
 use Rattle.meaning.specs.declared.opening.Opening.{Opening}
 use Rattle.meaning.specs.Numbers.{answer_of}
 use Rattle.meaning.specs.Sound.{top, last}
@@ -37,13 +39,19 @@ module _ (policy : Policy) (J : Journal) (T : ℕ) (os : List Order) where
   abbrev answered : List ℕ
   answered = map answer_of (batch policy J T 1000 os).answers
 
--- whether a reservation is live
-abbrev is_live_in : Journal → ℕ → Option Reserved → Bool
-is_live_in J T None = false
-is_live_in J T (Some R) = is_live (fate J T R)
+abbrev is_lapsed : Fate → Bool
+is_lapsed Live = false
+is_lapsed Posted = false
+is_lapsed Voided = false
+is_lapsed Lapsed = true
+
+-- whether there is such a reservation, with such a fate
+abbrev has_fate : (Fate → Bool) → Journal → ℕ → Option Reserved → Bool
+has_fate test J T None = false
+has_fate test J T (Some R) = test (fate J T R)
 
 abbrev live_at : Journal → ℕ → ℕ → Bool
-live_at J T r = is_live_in J T (the_reservation J r)
+live_at J T r = has_fate is_live J T (the_reservation J r)
 
 abbrev reserved : Journal
 reserved = ran open_to_all opened 1000 (order 1 (Reserve 1 2 400 60) ∷ [])
@@ -66,8 +74,10 @@ post_too_much = same (answered open_to_all reserved 1000 (order 2 (Post 1 401) �
 abbrev live_before : Bool
 live_before = live_at reserved 1059 1 && same (lapsed reserved 1000 1059) []
 
-abbrev lapsed-at : Bool
-lapsed-at = same (lapsed reserved 1000 1060) (1 ∷ []) && pending reserved 1060 debits 1 == 0
+abbrev lapsed_at : Bool
+lapsed_at =
+    has_fate is_lapsed reserved 1060 (the_reservation reserved 1)
+    && (same (lapsed reserved 1000 1060) (1 ∷ []) && pending reserved 1060 debits 1 == 0)
 
 -- without a duration it is live at the last moment
 abbrev unending : Journal
@@ -96,4 +106,4 @@ same_number = same (answered open_to_all opened 0 (order 5 (Transfer 1 2 9) ∷ 
 
 abbrev pub TenCases : Type 0
 TenCases =
-    (post_in_part && (post_all && (post_too_much && (live_before && (lapsed-at && (live_at_last && (draws_all && (draws_too_much && (passes_top && same_number))))))))) ≡ true
+    (post_in_part && (post_all && (post_too_much && (live_before && (lapsed_at && (live_at_last && (draws_all && (draws_too_much && (passes_top && same_number))))))))) ≡ true

@@ -30,10 +30,13 @@ first_deadline (R ∷ rs) = R.until
 abbrev pub next_deadline : Journal → ℕ → ℕ
 next_deadline J t = first_deadline (awaiting J t)
 
--- why a move from T to t with so many places for lapses is refused, if it is
-abbrev pub move_refused : Journal → (T t places : ℕ) → Option Refusal
-move_refused J T t places = first_of
+-- why a move from T to t is refused, if it is, with so many places for so many that fall due
+abbrev pub refused_with : (T t places falling : ℕ) → Option Refusal
+refused_with T t places falling = first_of
     ((nat_lt last t, MomentTooLate)
     ∷ (nat_lt t T, MomentEarlier)
-    ∷ (nat_lt places (length (lapsed J T t)), LapsesTooShort)
+    ∷ (nat_lt places falling, LapsesTooShort)
     ∷ [])
+
+abbrev pub move_refused : Journal → (T t places : ℕ) → Option Refusal
+move_refused J T t places = refused_with T t places (length (lapsed J T t))

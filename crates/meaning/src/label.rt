@@ -1,4 +1,4 @@
-// A label as a value that is known to be one. Beside the struct stands nothing that names it in specs/.
+// A label as a value that is known to be one. Its functions stand in a module below, since definitions name this struct.
 ghost use Rattle.std.specs.Prelude.{◌≡◌, true};
 ghost use Rattle.meaning.specs.Labels.{is_label};
 

@@ -6,7 +6,7 @@ use Rattle.meaning.specs.declared.refusal.Refusal.{Refusal}
 use Rattle.meaning.specs.Basics.{those}
 use Rattle.meaning.specs.Given.{Journal, Reserved, reservations}
 use Rattle.meaning.specs.Rules.{Policy}
-use Rattle.meaning.specs.Moves.{sooner, awaiting, lapsed, first_deadline, next_deadline, move_refused}
+use Rattle.meaning.specs.Moves.{sooner, awaiting, lapsed, first_deadline, next_deadline, move_refused, refused_with}
 use Rattle.meaning.specs.Calls.{over}
 use Rattle.ordered.specs.Orders.{due_before}
 use Rattle.ordered.specs.Keyed.{due_of}
@@ -19,7 +19,7 @@ use Rattle.balances.specs.Queues.{first, due_count}
 use Rattle.laws.specs.Steps.{Reads}
 use Rattle.image.specs.Image.{waiting, image_of, lapses}
 use Rattle.image.proofs.Arriving.{by_lapses}
-use Rattle.moves.specs.Turns.{refused_with, numbered}
+use Rattle.moves.specs.Turns.{numbered}
 use Rattle.moves.specs.MovesOn.{MovesOn}
 use Rattle.moves.proofs.Falling.{number_of, is_due, due_front, due_within, front_numbered}
 

@@ -1,4 +1,4 @@
--- A move on the tables: why it is refused, and which numbers it writes.
+-- A move on the tables: which numbers it writes.
 use Rattle.std.specs.Prelude.{ℕ, List, [], ◌∷◌, Some, None, Option, nat_lt}
 use Rattle.meaning.specs.declared.refusal.Refusal.{Refusal}
 use Rattle.meaning.specs.declared.refusal.Refusal.TheVariants.{MomentTooLate, MomentEarlier, LapsesTooShort}
@@ -7,10 +7,6 @@ use Rattle.meaning.specs.Sound.{last}
 use Rattle.ordered.specs.declared.due.Due.{Due}
 use Rattle.balances.specs.Books.{Books}
 use Rattle.balances.specs.Lapses.{next_due, lapsed_if}
-
--- from T to t, with so many places for so many that fall due
-abbrev pub refused_with : (T t places falling : ℕ) → Option Refusal
-refused_with T t places falling = first_of ((nat_lt last t, MomentTooLate) ∷ (nat_lt t T, MomentEarlier) ∷ (nat_lt places falling, LapsesTooShort) ∷ [])
 
 abbrev pub number_or : ℕ → Option Due → ℕ
 number_or n None = n

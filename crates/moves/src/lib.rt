@@ -3,13 +3,14 @@
 
 ghost use Rattle.std.specs.Prelude.{◌≡◌, ℕ, ◌≤◌, length};
 ghost use Rattle.meaning.specs.Given.{Journal};
+ghost use Rattle.meaning.specs.Moves.{refused_with};
 ghost use Rattle.meaning.specs.Rules.{Policy};
 ghost use Rattle.balances.specs.Books.{books_of};
 ghost use Rattle.balances.specs.Judged.{refusal_in};
 ghost use Rattle.laws.specs.Steps.{Reads};
 ghost use Rattle.image.specs.Image.{image_of, lapses as lapses_of};
 ghost use Rattle.moves.specs.MovesOn.{MovesOn};
-ghost use Rattle.moves.specs.Turns.{refused_with, numbered};
+ghost use Rattle.moves.specs.Turns.{numbered};
 
 use balances::Balances;
 use meaning::limits::LAST_MOMENT;

@@ -1,5 +1,5 @@
 // The four policies. Sums are taken at 128 bits, so none overflows.
-ghost use Rattle.std.specs.Prelude.{◌≡◌, ◌+◌, leb};
+ghost use Rattle.std.specs.Prelude.{◌≡◌, ◌+◌, nat_le};
 ghost use Rattle.meaning.specs.Policies.{open_to_all, floor, ceiling, by_class};
 ghost use Rattle.std.proofs.Common.{rules};
 
@@ -8,7 +8,7 @@ use meaning::{Side, Totals};
 
 // Whether all of one side stays within what is posted on the other and a limit.
 fn covers(drawn: &Side, posted: u64, limit: u64) -> bool
-    ensures { result ≡ leb (drawn.now.pending + drawn.now.posted) (posted + limit) }
+    ensures { result ≡ nat_le (drawn.now.pending + drawn.now.posted) (posted + limit) }
 {
     u128::from(drawn.pending) + u128::from(drawn.posted) <= u128::from(posted) + u128::from(limit)
 }
