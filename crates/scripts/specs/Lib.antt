@@ -4,6 +4,6 @@ pub mod Readers
 pub mod Pages
 pub mod Told
 pub mod Courses
-pub mod Made
 pub mod Runs
 pub mod Ended
+pub mod Made

@@ -1,15 +1,15 @@
--- What a script comes to that can be read, over a memory and an output.
-use Rattle.std.specs.Prelude.{◌≡◌, ℕ, ◌-◌, min, List, [], ◌++◌, length}
+-- The policies and journals that a head can name, and what a journal leaves in the memory and is told at the end.
+use Rattle.std.specs.Prelude.{ℕ, ◌-◌, min, List, [], ◌++◌, length}
 use Rattle.meaning.specs.declared.entry.Entry.{Entry}
 use Rattle.meaning.specs.declared.record.Record.{Record}
 use Rattle.meaning.specs.Calls.{State}
 use Rattle.meaning.specs.Policies.{by_class}
 use Rattle.meaning.specs.Reading.{reading as reading_of}
 use Rattle.meaning.specs.Rules.{Policy}
-use Rattle.journal.specs.Strips.{made_list, made_spare, used_of}
+use Rattle.journal.specs.Strips.{made_list, made_spare}
 use Rattle.reading.specs.Stands.{start_of}
 use Rattle.steps.specs.Written.{records_of, entries_of}
-use Rattle.clients.specs.Rounds.{left}
+use Rattle.clients.specs.Rounds.{left, in_use}
 use Rattle.scripts.specs.declared.head.Kept.{Kept}
 use Rattle.scripts.specs.declared.head.Kept.TheVariants.{Roll, Strip, RollAndStrip, StripAndRoll}
 use Rattle.scripts.specs.declared.head.Rule.{Rule}
@@ -46,13 +46,13 @@ module _ (m : List ℕ) (u : ℕ) where
   memory_left RollAndStrip new = left m u new
   memory_left StripAndRoll new = left m u new
 
-  -- how much of the strip is in use then; behind a roll, what its own number says is not told here
-  abbrev pub InUse : Kept → List Record → ℕ → Type 0
-  InUse Roll new used = used ≡ 0
-  InUse Strip new used = used ≡ used_of (left m u new) (length (made_list m u ++ entries_of new))
-  InUse RollAndStrip new used = Unit {0}
-  InUse StripAndRoll new used = used ≡ used_of (left m u new) (length (made_list m u ++ entries_of new))
+  -- how much of the strip is in use then
+  abbrev pub used_then : Kept → List Record → ℕ
+  used_then Roll new = 0
+  used_then Strip new = in_use m u new
+  used_then RollAndStrip new = in_use m u new
+  used_then StripAndRoll new = in_use m u new
 
   -- what is told at the end
-  abbrev pub told_last : Kept → List Record → ℕ → List ℕ
-  told_last k new used = told_journal (entries_found k ++ entries_of new) (spare_found k - length new) ++ as_8 used
+  abbrev pub told_last : Kept → List Record → List ℕ
+  told_last k new = told_journal (entries_found k ++ entries_of new) (spare_found k - length new) ++ as_8 (used_then k new)

@@ -5,13 +5,13 @@ ghost use Rattle.scripts.specs.Forms.{calls_at, script_at};
 ghost use Rattle.scripts.specs.Readers.{whether, to_run, seen, course_at};
 ghost use Rattle.promise.specs.Histories.{beginning};
 ghost use Rattle.scripts.specs.declared.bad.Bad.{Bad as BadScript};
-ghost use Rattle.scripts.specs.Made.{MadeAll, Over, RanOn};
+ghost use Rattle.scripts.specs.Made.{MadeAll, Over, RanOn, Ends};
 ghost use Rattle.scripts.specs.declared.head.Kept.TheVariants.{Roll as OnRoll, Strip as OnStrip, RollAndStrip as OnRollAndStrip, StripAndRoll as OnStripAndRoll};
 ghost use Rattle.scripts.specs.Pages.{Put, PutBefore};
 ghost use Rattle.scripts.specs.Told.{as_8, told_journal};
 ghost use Rattle.scripts.specs.Forms.{Call as Called};
 ghost use Rattle.scripts.specs.Runs.{policy_named};
-ghost use Rattle.scripts.specs.Ended.{Ran, Ends};
+ghost use Rattle.scripts.specs.Ended.{ending, told, output_after, memory_after};
 
 use crate::bad::Bad;
 use crate::head::{Head, Kept, Rule, read_head};
@@ -153,9 +153,9 @@ fn run_on_roll_and_strip<'a, P: Policy + Drop>(
 {
     let journal = Mirror::new(Roll::new(), Strip::make(memory, used));
     let (mirror, shown) = run_over(journal, policy, calls, page);
-    let (_roll, strip) = mirror.apart();
-    let ended = show_used(page, shown, strip.used());
-    (strip.give_back(), ended)
+    let (_first, second) = mirror.apart();
+    let ended = show_used(page, shown, second.used());
+    (second.give_back(), ended)
 }
 
 #[inline(never)]
@@ -172,9 +172,9 @@ fn run_on_strip_and_roll<'a, P: Policy + Drop>(
 {
     let journal = Mirror::new(Strip::make(memory, used), Roll::new());
     let (mirror, shown) = run_over(journal, policy, calls, page);
-    let (strip, _roll) = mirror.apart();
-    let ended = show_used(page, shown, strip.used());
-    (strip.give_back(), ended)
+    let (first, _second) = mirror.apart();
+    let ended = show_used(page, shown, first.used());
+    (first.give_back(), ended)
 }
 
 // Over the journal that the head names.
@@ -217,7 +217,7 @@ fn run_onto<'a>(
     output: &'a mut [u8],
 ) -> (&'a mut [u8], usize, Result<(), Bad>)
     ensures home { result.0.ghost_name ≡ output.entry.ghost_name }
-    ensures ran { (cs : List Called) → calls_at (length calls.now) calls.now ≡ Ok cs → Ran head.now cs memory.old output.old (result.1, result.2) memory.new result.0.now }
+    ensures ran { (cs : List Called) → calls_at (length calls.now) calls.now ≡ Ok cs → Ends (Ok (head.now, cs)) memory.old output.old (result.1, result.2) memory.new result.0.now }
 {
     let mut page = Page::new(output);
     let ended = run_under(head, calls, memory, &mut page);
@@ -228,7 +228,10 @@ fn run_onto<'a>(
 // Runs a script on a new book, over the memory where it has a strip; how many bytes of the output it wrote, and how it
 // ended. A script that can't be read in whole changes nothing.
 pub fn run(script: &[u8], memory: &mut [u8], output: &mut [u8]) -> (usize, Result<(), Bad>)
-    ensures { Ends (script_at script.now) memory.old output.old result memory.new output.new }
+    ensures ended { result.1 ≡ ending (script_at script.now) memory.old output.old }
+    ensures written { result.0 ≡ length (told (script_at script.now) memory.old output.old) }
+    ensures memory { memory.new ≡ memory_after (script_at script.now) memory.old output.old }
+    ensures output { output.new ≡ output_after (script_at script.now) memory.old output.old }
 {
     match check(script) {
         Ok((head, calls)) => {
