@@ -10,13 +10,13 @@ use Rattle.journal.specs.declared.strip.Strip.{Strip}
 use Rattle.journal.specs.Strips.{used_of, listed}
 use Rattle.reading.specs.Stands.{start_of}
 use Rattle.steps.specs.Written.{records_of, entries_of}
+use Rattle.book.specs.States.{begins}
 use Rattle.promise.specs.Histories.{beginning}
 use Rattle.scripts.specs.declared.bad.Bad.{Bad}
 use Rattle.scripts.specs.declared.page.Page.{Page}
 use Rattle.scripts.specs.Courses.{Course}
 use Rattle.scripts.specs.Made.{Done, Over}
 use Rattle.scripts.specs.Readers.{course_at}
-use Rattle.scripts.specs.Runs.{begins}
 use Rattle.scripts.specs.Told.{told_journal}
 
 module _ {J : Type 0} (j : journal.Ghosts J) (x : J) (es : List Entry) (spare : ℕ) (list : j.entries x ≡ es) (left : j.spare x ≡ spare)

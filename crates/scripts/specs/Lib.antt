@@ -1,4 +1,4 @@
-pub mod Shapes
+pub mod PlainPolicies
 pub mod Forms
 pub mod Readers
 pub mod Pages

@@ -6,11 +6,11 @@ use Rattle.journal.specs.declared.journal.Journal as journal
 use Rattle.policy.specs.declared.policy.Policy as policy
 use Rattle.steps.specs.Written.{Wrote}
 use Rattle.book.specs.declared.book.Book.{Book}
-use Rattle.book.specs.States.{policy_of, state_of, After}
+use Rattle.book.specs.States.{begins, policy_of, state_of, After}
 use Rattle.scripts.specs.declared.bad.Bad.{Bad}
 use Rattle.scripts.specs.declared.bad.Bad.TheVariants.{Output}
 use Rattle.scripts.specs.declared.head.Head.{Head}
-use Rattle.scripts.specs.declared.head.Kept.{Kept}
+use Rattle.scripts.specs.declared.head.JournalKind.{JournalKind}
 use Rattle.scripts.specs.declared.page.Page.{Page}
 use Rattle.scripts.specs.declared.step.Step.{Step}
 use Rattle.scripts.specs.Courses.{Course, tells, writes, comes_to, with_end}
@@ -18,7 +18,7 @@ use Rattle.scripts.specs.Ended.{ending, told, output_after, memory_after}
 use Rattle.scripts.specs.Forms.{Call, then_do}
 use Rattle.scripts.specs.Pages.{laid, Put}
 use Rattle.scripts.specs.Readers.{course_at}
-use Rattle.scripts.specs.Runs.{begins, entries_found, spare_found, memory_left, told_last}
+use Rattle.scripts.specs.Runs.{entries_found, spare_found, memory_left, told_last}
 use Rattle.scripts.specs.Told.{told_journal}
 
 -- a call: what it was told was put on the page, and the book is what the rules make of it
@@ -55,7 +55,7 @@ pub record Over {J : Type 0} (j : journal.Ghosts J) (x : J) (c : Course) (page :
   pub done : Done page c (told_journal (j.entries x') (j.spare x')) 8 r page'
 
 -- The calls of these bytes on a book over a journal of a kind.
-module _ (policy : Policy) (m : List ℕ) (u : ℕ) (k : Kept) (calls : List ℕ) (page : Page) where
+module _ (policy : Policy) (m : List ℕ) (u : ℕ) (k : JournalKind) (calls : List ℕ) (page : Page) where
   abbrev pub went_on : Course
   went_on = course_at policy (length page.bytes.now) (length calls) (begins (entries_found m u k) (spare_found m u k) policy) calls page.next
 

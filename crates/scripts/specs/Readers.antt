@@ -1,13 +1,14 @@
--- What a reader has given, beside the form of the bytes.
+-- A script as it is read, one call after another: the orders of a call, its bounds, and what calls come to that are made as
+-- they are read.
 use Rattle.std.specs.Prelude.{ℕ, zero, suc, ◌≤◌, cond, List, [], length, take, Ok, Err, Result, ◌==◌}
 use Rattle.std.specs.Borrow.{Bor}
 use Rattle.meaning.specs.declared.order.Order.{Order}
+use Rattle.meaning.specs.Calls.{State}
+use Rattle.meaning.specs.Rules.{Policy}
 use Rattle.scripts.specs.declared.bad.Bad.{Bad}
 use Rattle.scripts.specs.declared.head.Head.{Head}
 use Rattle.scripts.specs.declared.step.Step.{Step}
 use Rattle.scripts.specs.declared.step.Step.TheVariants.{Open, Run, Move, Report, Account, Reservation, Moment, Reading}
-use Rattle.meaning.specs.Calls.{State}
-use Rattle.meaning.specs.Rules.{Policy}
 use Rattle.scripts.specs.Courses.{Course, over_at, with_call}
 use Rattle.scripts.specs.Forms.{Call, then_do, behind, call_at, script_at}
 

@@ -6,7 +6,7 @@ ghost use Rattle.scripts.specs.Readers.{whether, to_run, seen, course_at};
 ghost use Rattle.promise.specs.Histories.{beginning};
 ghost use Rattle.scripts.specs.declared.bad.Bad.{Bad as BadScript};
 ghost use Rattle.scripts.specs.Made.{MadeAll, Over, RanOn, Ends};
-ghost use Rattle.scripts.specs.declared.head.Kept.TheVariants.{Roll as OnRoll, Strip as OnStrip, RollAndStrip as OnRollAndStrip, StripAndRoll as OnStripAndRoll};
+ghost use Rattle.scripts.specs.declared.head.JournalKind.TheVariants.{Roll as OnRoll, Strip as OnStrip, RollAndStrip as OnRollAndStrip, StripAndRoll as OnStripAndRoll};
 ghost use Rattle.scripts.specs.Pages.{Put, PutBefore};
 ghost use Rattle.scripts.specs.Told.{as_8, told_journal};
 ghost use Rattle.scripts.specs.Forms.{Call as Called};
@@ -14,7 +14,7 @@ ghost use Rattle.scripts.specs.Runs.{policy_named};
 ghost use Rattle.scripts.specs.Ended.{ending, told, output_after, memory_after};
 
 use crate::bad::Bad;
-use crate::head::{Head, Kept, Rule, read_head};
+use crate::head::{Head, JournalKind, PolicyKind, read_head};
 use crate::making::make;
 use crate::page::Page;
 use crate::reader::Reader;
@@ -111,7 +111,7 @@ fn show_used(page: &mut Page<'_>, shown: Result<(), Bad>, used: usize) -> Result
     }
 }
 
-// One function for each kind of journal, and none of them inlined, so that only one book takes room on the stack. Those
+// Plain function for each kind of journal, and none of them inlined, so that only one book takes room on the stack. Those
 // over a strip give its memory back.
 #[inline(never)]
 fn run_on_roll<P: Policy + Drop>(policy: P, calls: &[u8], page: &mut Page<'_>) -> Result<(), Bad>
@@ -186,24 +186,25 @@ fn run_by<P: Policy + Drop>(
     page: &mut Page<'_>,
 ) -> Result<(), Bad>
     requires { page.old.next ≤ length page.old.bytes.now }
-    ensures { RanOn (P.Policy.admits policy) memory.old head.now.used head.now.kept calls.now page.old result page.new memory.new }
+    ensures { RanOn (P.Policy.admits policy) memory.old head.now.used head.now.journal calls.now page.old result page.new memory.new }
 {
-    match head.kept {
-        Kept::Roll => run_on_roll(policy, calls, page),
-        Kept::Strip => run_on_strip(memory, head.used, policy, calls, page).1,
-        Kept::RollAndStrip => run_on_roll_and_strip(memory, head.used, policy, calls, page).1,
-        Kept::StripAndRoll => run_on_strip_and_roll(memory, head.used, policy, calls, page).1,
+    let used = head.used;
+    match head.journal {
+        JournalKind::Roll => run_on_roll(policy, calls, page),
+        JournalKind::Strip => run_on_strip(memory, used, policy, calls, page).1,
+        JournalKind::RollAndStrip => run_on_roll_and_strip(memory, used, policy, calls, page).1,
+        JournalKind::StripAndRoll => run_on_strip_and_roll(memory, used, policy, calls, page).1,
     }
 }
 
 // Under the policy that the head names.
 fn run_under(head: &Head, calls: &[u8], memory: &mut [u8], page: &mut Page<'_>) -> Result<(), Bad>
     requires { page.old.next ≤ length page.old.bytes.now }
-    ensures { RanOn (policy_named head.now.rule) memory.old head.now.used head.now.kept calls.now page.old result page.new memory.new }
+    ensures { RanOn (policy_named head.now.policy) memory.old head.now.used head.now.journal calls.now page.old result page.new memory.new }
 {
-    match head.rule {
-        Rule::One(shape) => run_by(head, shape, calls, memory, page),
-        Rule::ByClass { below, class, from } => {
+    match head.policy {
+        PolicyKind::Plain(plain) => run_by(head, plain, calls, memory, page),
+        PolicyKind::ByClass { below, class, from } => {
             run_by(head, ByClass { below, class, from }, calls, memory, page)
         }
     }
