@@ -1,4 +1,4 @@
--- What a book stands for, and what a call leaves of it.
+-- What a book begins with and stands for, and what a call leaves of it.
 use Rattle.std.specs.Prelude.{◌≡◌, ℕ, List}
 use Rattle.meaning.specs.declared.entry.Entry.{Entry}
 use Rattle.meaning.specs.declared.record.Record.{Record}

@@ -35,10 +35,6 @@ module _ (bs : List ℕ) (i : ℕ) where
 abbrev pub with_next : {X : Type 0} → ℕ → List ℕ → (List ℕ → Result X Bad) → Result X Bad
 with_next n bs f = cond (nat_le n (length bs)) (f (take n bs)) (Err Cut)
 
--- and the bytes behind them
-abbrev pub behind : ℕ → List ℕ → List ℕ
-behind n bs = cond (nat_le n (length bs)) (drop n bs) bs
-
 -- what is made of a result, where there is one
 abbrev pub then_do : {X Y : Type 0} → Result X Bad → (X → Result Y Bad) → Result Y Bad
 then_do (Ok x) f = f x
@@ -82,7 +78,7 @@ order_of f = cond (nat_lt 1 (byte f 4)) (Err NoOrder)
 -- n of them, and the bytes behind them
 abbrev pub orders_at : ℕ → List ℕ → Result (List Order × List ℕ) Bad
 orders_at zero bs = Ok ([], bs)
-orders_at (suc n) bs = then_do (with_next 26 bs order_of) (λ o. then_do (orders_at n (behind 26 bs)) (λ r. Ok (o ∷ r.0, r.1)))
+orders_at (suc n) bs = then_do (with_next 26 bs order_of) (λ o. then_do (orders_at n (drop 26 bs)) (λ r. Ok (o ∷ r.0, r.1)))
 
 -- Calls: a code, and the fields behind it.
 
@@ -105,8 +101,8 @@ call_of n bs f = then_do (with_next n bs f) (λ s. Ok (record { step = s; orders
 abbrev pub batch_at : List ℕ → Result (Call × List ℕ) Bad
 batch_at bs =
     then_do (with_next 1 bs (λ f. at_most 64 (byte f 0))) (λ n.
-    then_do (with_next 1 (behind 1 bs) (λ f. at_most 64 (byte f 0))) (λ places.
-    then_do (orders_at n (behind 1 (behind 1 bs))) (λ r. Ok (record { step = Run n places; orders = r.0 }, r.1))))
+    then_do (with_next 1 (drop 1 bs) (λ f. at_most 64 (byte f 0))) (λ places.
+    then_do (orders_at n (drop 2 bs)) (λ r. Ok (record { step = Run n places; orders = r.0 }, r.1))))
 
 -- the call of a code
 abbrev pub coded : ℕ → List ℕ → Result (Call × List ℕ) Bad
@@ -121,7 +117,7 @@ coded code bs =
     (cond (code == 8) (call_of 0 bs (λ f. Ok Reading)) (Err NoCall))))))))
 
 abbrev pub call_at : List ℕ → Result (Call × List ℕ) Bad
-call_at bs = then_do (with_next 1 bs (λ f. Ok (byte f 0))) (λ code. coded code (behind 1 bs))
+call_at bs = then_do (with_next 1 bs (λ f. Ok (byte f 0))) (λ code. coded code (drop 1 bs))
 
 -- one after another until the bytes end, and at most so many
 abbrev pub calls_at : ℕ → List ℕ → Result (List Call) Bad
@@ -130,4 +126,4 @@ calls_at (suc most) bs = cond (length bs == 0) (Ok []) (then_do (call_at bs) (λ
 
 -- The whole script. No call is shorter than a byte, so that there are no more calls than bytes.
 abbrev pub script_at : List ℕ → Result (Head × List Call) Bad
-script_at bs = then_do (head_at bs) (λ h. then_do (calls_at (length (behind 14 bs)) (behind 14 bs)) (λ cs. Ok (h, cs)))
+script_at bs = then_do (head_at bs) (λ h. then_do (calls_at (length (drop 14 bs)) (drop 14 bs)) (λ cs. Ok (h, cs)))

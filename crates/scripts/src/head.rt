@@ -1,6 +1,7 @@
 // The head of a script: its version, the journal, the policy, and how much of the strip's memory is in use.
 ghost use Rattle.std.specs.Prelude.{◌≡◌, ◌≤◌, length};
-ghost use Rattle.scripts.specs.Forms.{behind, journal_kind, policy_kind, head_of, head_at};
+ghost use Rattle.scripts.specs.Forms.{journal_kind, policy_kind, head_of, head_at};
+ghost use Rattle.scripts.specs.Readers.{behind};
 
 use crate::bad::Bad;
 use crate::plain::{PlainPolicy, plain_policy};

@@ -1,17 +1,16 @@
 // A script, run from its head to its end.
 ghost use Rattle.std.specs.Prelude.{◌≡◌, ℕ, ◌≤◌, List, Ok, Err, length};
 ghost use Rattle.book.specs.States.{policy_of, state_of};
-ghost use Rattle.scripts.specs.Forms.{calls_at, script_at};
-ghost use Rattle.scripts.specs.Readers.{whether, to_run, seen, course_at};
 ghost use Rattle.promise.specs.Histories.{beginning};
 ghost use Rattle.scripts.specs.declared.bad.Bad.{Bad as BadScript};
-ghost use Rattle.scripts.specs.Made.{MadeAll, Over, RanOn, Ends};
 ghost use Rattle.scripts.specs.declared.head.JournalKind.TheVariants.{Roll as OnRoll, Strip as OnStrip, RollAndStrip as OnRollAndStrip, StripAndRoll as OnStripAndRoll};
-ghost use Rattle.scripts.specs.Pages.{Put, PutBefore};
-ghost use Rattle.scripts.specs.Told.{as_8, told_journal};
-ghost use Rattle.scripts.specs.Forms.{Call as Called};
-ghost use Rattle.scripts.specs.Runs.{policy_named};
 ghost use Rattle.scripts.specs.Ended.{ending, told, output_after, memory_after};
+ghost use Rattle.scripts.specs.Forms.{Call as Called, calls_at, script_at};
+ghost use Rattle.scripts.specs.Made.{MadeAll, Over, RanOn, Ends};
+ghost use Rattle.scripts.specs.Pages.{Put, PutBefore};
+ghost use Rattle.scripts.specs.Readers.{whether, to_run, seen, course_at};
+ghost use Rattle.scripts.specs.Runs.{policy_named};
+ghost use Rattle.scripts.specs.Told.{as_8, told_journal};
 
 use crate::bad::Bad;
 use crate::head::{Head, JournalKind, PolicyKind, read_head};
