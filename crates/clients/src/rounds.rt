@@ -1,9 +1,9 @@
 // A round of a station that keeps its journal in a memory of its own, and nothing else from round to round.
-ghost use Rattle.std.specs.Prelude.{◌≡◌, ◌++◌, length};
+ghost use Rattle.std.specs.Prelude.{◌≡◌, ◌++◌};
 ghost use Rattle.meaning.specs.Calls.{run_writes, run_answers};
-ghost use Rattle.journal.specs.Strips.{made_list, used_of};
+ghost use Rattle.journal.specs.Strips.{made_list};
 ghost use Rattle.steps.specs.Written.{entries_of};
-ghost use Rattle.clients.specs.Rounds.{found, left};
+ghost use Rattle.clients.specs.Rounds.{found, left, in_use};
 
 use book::Book;
 use journal::Strip;
@@ -21,7 +21,7 @@ fn round<'a, P: Policy + Drop>(
     ensures answers { answers.new ≡ run_answers (P.Policy.admits policy) (found memory.old used (P.Policy.admits policy)) orders.now answers.old }
     ensures home { result.0.ghost_name ≡ memory.entry.ghost_name }
     ensures bytes { result.0.now ≡ left memory.old used (run_writes (P.Policy.admits policy) (found memory.old used (P.Policy.admits policy)) orders.now answers.old) }
-    ensures used { result.1 ≡ used_of result.0.now (length (made_list memory.old used ++ entries_of (run_writes (P.Policy.admits policy) (found memory.old used (P.Policy.admits policy)) orders.now answers.old))) }
+    ensures used { result.1 ≡ in_use memory.old used (run_writes (P.Policy.admits policy) (found memory.old used (P.Policy.admits policy)) orders.now answers.old) }
     ensures again { made_list result.0.now result.1 ≡ made_list memory.old used ++ entries_of (run_writes (P.Policy.admits policy) (found memory.old used (P.Policy.admits policy)) orders.now answers.old) }
 {
     let mut book = Book::create(Strip::make(memory, used), policy);
@@ -42,7 +42,7 @@ pub fn run_round<P: Policy + Drop>(
 ) -> usize
     ensures answers { answers.new ≡ run_answers (P.Policy.admits policy) (found memory.old used (P.Policy.admits policy)) orders.now answers.old }
     ensures memory { memory.new ≡ left memory.old used (run_writes (P.Policy.admits policy) (found memory.old used (P.Policy.admits policy)) orders.now answers.old) }
-    ensures used { result ≡ used_of memory.new (length (made_list memory.old used ++ entries_of (run_writes (P.Policy.admits policy) (found memory.old used (P.Policy.admits policy)) orders.now answers.old))) }
+    ensures used { result ≡ in_use memory.old used (run_writes (P.Policy.admits policy) (found memory.old used (P.Policy.admits policy)) orders.now answers.old) }
     ensures again { made_list memory.new result ≡ made_list memory.old used ++ entries_of (run_writes (P.Policy.admits policy) (found memory.old used (P.Policy.admits policy)) orders.now answers.old) }
 {
     let (_memory, used) = round(memory, used, policy, orders, answers);

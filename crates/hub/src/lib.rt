@@ -3,7 +3,7 @@
 
 ghost use Rattle.std.specs.Prelude.{◌≡◌, length};
 ghost use Rattle.scripts.specs.Forms.{script_at};
-ghost use Rattle.scripts.specs.Ended.{Answers};
+ghost use Rattle.scripts.specs.Ended.{ending, told, output_after, memory_after, code_in};
 ghost use Rattle.meaning.specs.Labels.{is_label};
 ghost use Rattle.journal.specs.Strips.{made_bytes, made_list, used_of};
 
@@ -20,7 +20,10 @@ pub extern "C" fn water_book_run(
     output: &mut [u8],
     written: &mut u64,
 ) -> u32
-    ensures { Answers (script_at script.now) memory.old output.old result written.new memory.new output.new }
+    ensures ended { result ≡ code_in (ending (script_at script.now) memory.old output.old) }
+    ensures written { written.new ≡ length (told (script_at script.now) memory.old output.old) }
+    ensures memory { memory.new ≡ memory_after (script_at script.now) memory.old output.old }
+    ensures output { output.new ≡ output_after (script_at script.now) memory.old output.old }
 {
     let (length, ended) = run(script, memory, output);
     *written = length as u64;
@@ -41,7 +44,8 @@ fn measure<'a>(memory: &'a mut [u8], used: usize) -> (&'a mut [u8], usize)
     (strip.give_back(), used)
 }
 
-// How many bytes of a strip are in use: those of its sound records, up to the first that is unsound or cut.
+// How many bytes of a strip are in use: those of its sound records, up to the first that is unsound or cut. At 0 it begins
+// anew, and the version byte is written.
 #[unsafe(no_mangle)]
 pub extern "C" fn water_book_used(memory: &mut [u8], used: usize) -> usize
     ensures used { result ≡ used_of (made_bytes memory.old used) (length (made_list memory.old used)) }

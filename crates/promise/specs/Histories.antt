@@ -10,9 +10,8 @@ use Rattle.meaning.specs.Rules.{Policy}
 use Rattle.journal.specs.declared.journal.Journal as journal
 use Rattle.policy.specs.declared.policy.Policy as policy
 use Rattle.steps.specs.Written.{journal_of, entries_of, Wrote}
-use Rattle.reading.specs.Stands.{start_of}
 use Rattle.book.specs.declared.book.Book.{Book}
-use Rattle.book.specs.States.{policy_of, state_of}
+use Rattle.book.specs.States.{begins, policy_of, state_of}
 use Rattle.promise.specs.declared.call.Call.{Call}
 use Rattle.promise.specs.declared.desk.Desk.{Desk}
 use Rattle.promise.specs.Kept.{Keeps}
@@ -31,7 +30,7 @@ pub record Alike (d e : Desk) : Type 0 where
 
 -- what a book over the journal x begins with
 abbrev pub beginning : {J : Type 0} → journal.Ghosts J → Policy → J → State
-beginning j admits x = record { journal = journal_of j x; moment = start_of (reading_of admits (journal_of j x)) (journal_of j x); spare = j.spare x }
+beginning j admits x = begins (j.entries x) (j.spare x) admits
 
 module _ {J P K Q : Type 0} (j : journal.Ghosts J) (p : policy.Ghosts P) (k : journal.Ghosts K) (q : policy.Ghosts Q) where
   -- the second book against the first, after the same further calls: from is what the first had come to before them

@@ -6,9 +6,9 @@ use Rattle.std.proofs.lemmas.List.{append_assoc, length-append}
 use Rattle.scripts.specs.declared.bad.Bad.{Bad}
 use Rattle.scripts.specs.declared.bad.Bad.TheVariants.{Output}
 use Rattle.scripts.specs.declared.page.Page.{Page}
-use Rattle.scripts.specs.Courses.{Course, closed, with_end}
+use Rattle.scripts.specs.Courses.{Course, with_end}
 use Rattle.scripts.specs.Forms.{then_do}
-use Rattle.scripts.specs.Made.{Done}
+use Rattle.scripts.specs.Made.{Done, closed_at}
 use Rattle.scripts.specs.Pages.{laid, Put, PutBefore}
 use Rattle.scripts.proofs.Laid.{length_laid, laid_more}
 use Rattle.scripts.proofs.Rooms.{put_fits}
@@ -40,7 +40,7 @@ module _ (page : Page) (c : Course) (E : List ℕ) (more : ℕ) (p1 p2 : Page) (
       same_room : length p1.bytes.now ≡ length bs
       same_room = ap length bytes ∙ length_laid page.next c.told bs fits
 
-      put_together : r ≡ closed page.next (length bs) c E more → (p2.bytes.now ≡ laid page.next (with_end r c.told E) bs) × (p2.next ≡ page.next + length (with_end r c.told E)) → Done page c E more r p2
+      put_together : r ≡ closed_at page.next (length bs) c E more → (p2.bytes.now ≡ laid page.next (with_end r c.told E) bs) × (p2.next ≡ page.next + length (with_end r c.told E)) → Done page c E more r p2
       put_together answer both = record { answer = answer; bytes = both.0; next = both.1; same = same }
 
       asked : nat_le (p1.next + (length E + more)) (length p1.bytes.now) ≡ finds_room
@@ -62,7 +62,7 @@ closed_ok : (e : Result (Unit {0}) Bad) (b : Bool) → Ok tt ≡ then_do e (λ _
 closed_ok (Ok u) b is = put_fits b is
 closed_ok (Err x) b is = absurd (cc is)
 
--- Eight bytes more behind the end, for which there is room where it was told.
+-- How much of a strip is in use, behind the end: eight bytes more, for which there is room where it was told.
 module _ (page : Page) (c : Course) (E U : List ℕ) (long : length U ≡ 8) (p1 p2 : Page) (r1 r : Result (Unit {0}) Bad) (D : Done page c E 8 r1 p1) where
   abbrev room : ℕ
   room = length page.bytes.now
@@ -70,7 +70,7 @@ module _ (page : Page) (c : Course) (E U : List ℕ) (long : length U ≡ 8) (p1
   same_length : length E + 8 ≡ length (E ++ U) + 0
   same_length = omega (arith, long, length-append E U)
 
-  same_end : closed page.next room c E 8 ≡ closed page.next room c (E ++ U) 0
+  same_end : closed_at page.next room c E 8 ≡ closed_at page.next room c (E ++ U) 0
   same_end = ap (λ k. then_do c.ended (λ _. cond (nat_le (page.next + length c.told + k) room) (Ok tt) (Err Output))) same_length
 
   pub used_behind : p2.bytes.ghost_name ≡ p1.bytes.ghost_name → (r1 ≡ Ok tt → Put p1 U r p2) → ((b : Bad) → r1 ≡ Err b → (r ≡ Err b) × (p2 ≡ p1)) → Done page c (E ++ U) 0 r p2

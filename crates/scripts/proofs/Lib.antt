@@ -9,3 +9,4 @@ pub mod Underway
 pub mod Endings
 pub mod Found
 pub mod Reading
+pub mod Wholly

@@ -88,11 +88,10 @@ module _ (policy : Policy) (room : ℕ) where
   course s [] n = over_at s.moment (Ok tt)
   course s (c ∷ cs) n = with_call s c n (λ s' n'. course s' cs n')
 
--- How a script ends whose calls came to c, on n bytes of so much room: where all of them went through, the end is told,
--- if it and so many bytes more have room.
-module _ (n room : ℕ) (c : Course) (end : List ℕ) (more : ℕ) where
-  abbrev pub closed : Result (Unit {0}) Bad
-  closed = then_do c.ended (λ _. cond (nat_le (n + length c.told + (length end + more)) room) (Ok tt) (Err Output))
+-- how a script ends whose calls came to c, in an output of so much room: where all of them went through, the end is told,
+-- if it has room
+abbrev pub closed : (room : ℕ) → Course → (end : List ℕ) → Result (Unit {0}) Bad
+closed room c end = then_do c.ended (λ _. cond (nat_le (length c.told + length end) room) (Ok tt) (Err Output))
 
 -- what was told, and the end where it was told
 abbrev pub with_end : Result (Unit {0}) Bad → List ℕ → List ℕ → List ℕ

@@ -8,12 +8,12 @@ use Rattle.meaning.specs.declared.order.Order.{Order}
 use Rattle.scripts.specs.declared.bad.Bad.{Bad}
 use Rattle.scripts.specs.declared.bad.Bad.TheVariants.{Head as NoHead, Journal as NoJournal, Policy as NoPolicy, Cut, Call as NoCall, Order as NoOrder, List as TooLong}
 use Rattle.scripts.specs.declared.head.Head.{Head}
-use Rattle.scripts.specs.declared.head.Kept.{Kept}
-use Rattle.scripts.specs.declared.head.Kept.TheVariants.{Roll, Strip, RollAndStrip, StripAndRoll}
-use Rattle.scripts.specs.declared.head.Rule.{Rule}
-use Rattle.scripts.specs.declared.head.Rule.TheVariants.{One, ByClass}
-use Rattle.scripts.specs.declared.shape.Shape.{Shape}
-use Rattle.scripts.specs.declared.shape.Shape.TheVariants.{Open as OpenToAll, Floor, Ceiling}
+use Rattle.scripts.specs.declared.head.JournalKind.{JournalKind}
+use Rattle.scripts.specs.declared.head.JournalKind.TheVariants.{Roll, Strip, RollAndStrip, StripAndRoll}
+use Rattle.scripts.specs.declared.head.PolicyKind.{PolicyKind}
+use Rattle.scripts.specs.declared.head.PolicyKind.TheVariants.{Plain, ByClass}
+use Rattle.scripts.specs.declared.plain.PlainPolicy.{PlainPolicy}
+use Rattle.scripts.specs.declared.plain.PlainPolicy.TheVariants.{Open as OpenToAll, Floor, Ceiling}
 use Rattle.scripts.specs.declared.step.Step.{Step}
 use Rattle.scripts.specs.declared.step.Step.TheVariants.{Open, Run, Move, Report, Account, Reservation, Moment, Reading}
 
@@ -35,10 +35,6 @@ module _ (bs : List ℕ) (i : ℕ) where
 abbrev pub with_next : {X : Type 0} → ℕ → List ℕ → (List ℕ → Result X Bad) → Result X Bad
 with_next n bs f = cond (nat_le n (length bs)) (f (take n bs)) (Err Cut)
 
--- and the bytes behind them
-abbrev pub behind : ℕ → List ℕ → List ℕ
-behind n bs = cond (nat_le n (length bs)) (drop n bs) bs
-
 -- what is made of a result, where there is one
 abbrev pub then_do : {X Y : Type 0} → Result X Bad → (X → Result Y Bad) → Result Y Bad
 then_do (Ok x) f = f x
@@ -46,20 +42,21 @@ then_do (Err b) f = Err b
 
 -- The head, of 14 bytes.
 
-abbrev pub kept_of : ℕ → Result Kept Bad
-kept_of n = cond (n == 0) (Ok Roll) (cond (n == 1) (Ok Strip) (cond (n == 2) (Ok RollAndStrip) (cond (n == 3) (Ok StripAndRoll) (Err NoJournal))))
+-- a journal, and a policy, by its number
+abbrev pub journal_kind : ℕ → Result JournalKind Bad
+journal_kind n = cond (n == 0) (Ok Roll) (cond (n == 1) (Ok Strip) (cond (n == 2) (Ok RollAndStrip) (cond (n == 3) (Ok StripAndRoll) (Err NoJournal))))
 
-abbrev pub shape_of : ℕ → Result Shape Bad
-shape_of n = cond (n == 0) (Ok OpenToAll) (cond (n == 1) (Ok Floor) (cond (n == 2) (Ok Ceiling) (Err NoPolicy)))
+abbrev pub plain_policy : ℕ → Result PlainPolicy Bad
+plain_policy n = cond (n == 0) (Ok OpenToAll) (cond (n == 1) (Ok Floor) (cond (n == 2) (Ok Ceiling) (Err NoPolicy)))
 
-abbrev pub rule_of : (number class below from : ℕ) → Result Rule Bad
-rule_of number class below from = cond (number == 3)
-    (then_do (shape_of below) (λ b. then_do (shape_of from) (λ f. Ok (ByClass b class f))))
-    (then_do (shape_of number) (λ s. Ok (One s)))
+abbrev pub policy_kind : (number class below from : ℕ) → Result PolicyKind Bad
+policy_kind number class below from = cond (number == 3)
+    (then_do (plain_policy below) (λ b. then_do (plain_policy from) (λ f. Ok (ByClass b class f))))
+    (then_do (plain_policy number) (λ s. Ok (Plain s)))
 
 abbrev pub head_of : List ℕ → Result Head Bad
 head_of f = cond (byte f 0 == 1)
-    (then_do (kept_of (byte f 1)) (λ k. then_do (rule_of (byte f 2) (byte f 3) (byte f 4) (byte f 5)) (λ r. Ok (record { kept = k; rule = r; used = u64_at f 6 }))))
+    (then_do (journal_kind (byte f 1)) (λ k. then_do (policy_kind (byte f 2) (byte f 3) (byte f 4) (byte f 5)) (λ r. Ok (record { journal = k; policy = r; used = u64_at f 6 }))))
     (Err NoHead)
 
 abbrev pub head_at : List ℕ → Result Head Bad
@@ -81,9 +78,9 @@ order_of f = cond (nat_lt 1 (byte f 4)) (Err NoOrder)
 -- n of them, and the bytes behind them
 abbrev pub orders_at : ℕ → List ℕ → Result (List Order × List ℕ) Bad
 orders_at zero bs = Ok ([], bs)
-orders_at (suc n) bs = then_do (with_next 26 bs order_of) (λ o. then_do (orders_at n (behind 26 bs)) (λ r. Ok (o ∷ r.0, r.1)))
+orders_at (suc n) bs = then_do (with_next 26 bs order_of) (λ o. then_do (orders_at n (drop 26 bs)) (λ r. Ok (o ∷ r.0, r.1)))
 
--- Calls: what one asks for, and its orders where it is a batch.
+-- Calls: a code, and the fields behind it.
 
 abbrev pub opening_of : List ℕ → Opening
 opening_of f = record { number = u32_at f 0; ledger = u16_at f 4; class = byte f 6; limit = u64_at f 7; label = u64_at f 15 }
@@ -104,8 +101,8 @@ call_of n bs f = then_do (with_next n bs f) (λ s. Ok (record { step = s; orders
 abbrev pub batch_at : List ℕ → Result (Call × List ℕ) Bad
 batch_at bs =
     then_do (with_next 1 bs (λ f. at_most 64 (byte f 0))) (λ n.
-    then_do (with_next 1 (behind 1 bs) (λ f. at_most 64 (byte f 0))) (λ places.
-    then_do (orders_at n (behind 1 (behind 1 bs))) (λ r. Ok (record { step = Run n places; orders = r.0 }, r.1))))
+    then_do (with_next 1 (drop 1 bs) (λ f. at_most 64 (byte f 0))) (λ places.
+    then_do (orders_at n (drop 2 bs)) (λ r. Ok (record { step = Run n places; orders = r.0 }, r.1))))
 
 -- the call of a code
 abbrev pub coded : ℕ → List ℕ → Result (Call × List ℕ) Bad
@@ -120,7 +117,7 @@ coded code bs =
     (cond (code == 8) (call_of 0 bs (λ f. Ok Reading)) (Err NoCall))))))))
 
 abbrev pub call_at : List ℕ → Result (Call × List ℕ) Bad
-call_at bs = then_do (with_next 1 bs (λ f. Ok (byte f 0))) (λ code. coded code (behind 1 bs))
+call_at bs = then_do (with_next 1 bs (λ f. Ok (byte f 0))) (λ code. coded code (drop 1 bs))
 
 -- one after another until the bytes end, and at most so many
 abbrev pub calls_at : ℕ → List ℕ → Result (List Call) Bad
@@ -129,4 +126,4 @@ calls_at (suc most) bs = cond (length bs == 0) (Ok []) (then_do (call_at bs) (λ
 
 -- The whole script. No call is shorter than a byte, so that there are no more calls than bytes.
 abbrev pub script_at : List ℕ → Result (Head × List Call) Bad
-script_at bs = then_do (head_at bs) (λ h. then_do (calls_at (length (behind 14 bs)) (behind 14 bs)) (λ cs. Ok (h, cs)))
+script_at bs = then_do (head_at bs) (λ h. then_do (calls_at (length (drop 14 bs)) (drop 14 bs)) (λ cs. Ok (h, cs)))

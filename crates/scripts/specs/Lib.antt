@@ -1,9 +1,9 @@
-pub mod Shapes
+pub mod PlainPolicies
 pub mod Forms
 pub mod Readers
 pub mod Pages
 pub mod Told
 pub mod Courses
-pub mod Made
 pub mod Runs
 pub mod Ended
+pub mod Made

@@ -17,14 +17,15 @@ laid n new bs = take n bs ++ (new ++ drop (n + length new) bs)
 abbrev pub if_room : {X : Type 0} → Page → ℕ → X → X → X
 if_room p n x y = cond (nat_le (p.next + n) (length p.bytes.now)) x y
 
--- these bytes were put behind those that were written, or there was no room for all of them and nothing has changed
-pub record Put (p : Page) (new : List ℕ) (r : Result (Unit {0}) Bad) (p' : Page) : Type 0 where
-  pub answer : r ≡ if_room p (length new) (Ok tt) (Err Output)
-  pub bytes : p'.bytes.now ≡ if_room p (length new) (laid p.next new p.bytes.now) p.bytes.now
-  pub next : p'.next ≡ if_room p (length new) (p.next + length new) p.next
+-- these bytes were put behind those that were written, if there was room for n; else nothing has changed
+pub record PutIn (n : ℕ) (p : Page) (new : List ℕ) (r : Result (Unit {0}) Bad) (p' : Page) : Type 0 where
+  pub answer : r ≡ if_room p n (Ok tt) (Err Output)
+  pub bytes : p'.bytes.now ≡ if_room p n (laid p.next new p.bytes.now) p.bytes.now
+  pub next : p'.next ≡ if_room p n (p.next + length new) p.next
 
--- the same, where so many bytes more are to fit behind them
-pub record PutBefore (p : Page) (new : List ℕ) (more : ℕ) (r : Result (Unit {0}) Bad) (p' : Page) : Type 0 where
-  pub answer : r ≡ if_room p (length new + more) (Ok tt) (Err Output)
-  pub bytes : p'.bytes.now ≡ if_room p (length new + more) (laid p.next new p.bytes.now) p.bytes.now
-  pub next : p'.next ≡ if_room p (length new + more) (p.next + length new) p.next
+abbrev pub Put : Page → List ℕ → Result (Unit {0}) Bad → Page → Type 0
+Put p new = PutIn (length new) p new
+
+-- so many bytes more are to fit behind them
+abbrev pub PutBefore : Page → List ℕ → ℕ → Result (Unit {0}) Bad → Page → Type 0
+PutBefore p new more = PutIn (length new + more) p new

@@ -1,15 +1,16 @@
--- What a reader has given, beside the form of the bytes.
-use Rattle.std.specs.Prelude.{ℕ, zero, suc, ◌≤◌, cond, List, [], length, take, Ok, Err, Result, ◌==◌}
+-- A script as it is read, one call after another: the orders of a call, its bounds, and what calls come to that are made as
+-- they are read.
+use Rattle.std.specs.Prelude.{ℕ, zero, suc, ◌≤◌, cond, List, [], length, take, drop, Ok, Err, Result, ◌==◌, nat_le}
 use Rattle.std.specs.Borrow.{Bor}
 use Rattle.meaning.specs.declared.order.Order.{Order}
+use Rattle.meaning.specs.Calls.{State}
+use Rattle.meaning.specs.Rules.{Policy}
 use Rattle.scripts.specs.declared.bad.Bad.{Bad}
 use Rattle.scripts.specs.declared.head.Head.{Head}
 use Rattle.scripts.specs.declared.step.Step.{Step}
 use Rattle.scripts.specs.declared.step.Step.TheVariants.{Open, Run, Move, Report, Account, Reservation, Moment, Reading}
-use Rattle.meaning.specs.Calls.{State}
-use Rattle.meaning.specs.Rules.{Policy}
 use Rattle.scripts.specs.Courses.{Course, over_at, with_call}
-use Rattle.scripts.specs.Forms.{Call, then_do, behind, call_at, script_at}
+use Rattle.scripts.specs.Forms.{Call, then_do, call_at, script_at}
 
 -- the orders of a call, which stand at the front of a list
 abbrev pub orders_in : Step → List Order → List Order
@@ -36,13 +37,17 @@ Within Reading = Unit {0}
 abbrev pub with_list : List Order → Step → Call
 with_list list s = record { step = s; orders = orders_in s list }
 
+-- what is left when the next n bytes were to be read: all of them, where there are fewer
+abbrev pub behind : ℕ → List ℕ → List ℕ
+behind n bs = cond (nat_le n (length bs)) (drop n bs) bs
+
 -- whether there is a result, whatever it is
 abbrev pub whether : {X : Type 0} → Result X Bad → Result (Unit {0}) Bad
 whether r = then_do r (λ _. Ok tt)
 
 -- a script's head and the bytes of its calls, where they can all be read
 abbrev pub to_run : List ℕ → Result (Head × List ℕ) Bad
-to_run bs = then_do (script_at bs) (λ s. Ok (s.0, behind 14 bs))
+to_run bs = then_do (script_at bs) (λ s. Ok (s.0, drop 14 bs))
 
 abbrev pub seen : Result (Head × Bor (List ℕ)) Bad → Result (Head × List ℕ) Bad
 seen r = then_do r (λ r. Ok (r.0, r.1.now))

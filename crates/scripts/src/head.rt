@@ -1,15 +1,16 @@
 // The head of a script: its version, the journal, the policy, and how much of the strip's memory is in use.
 ghost use Rattle.std.specs.Prelude.{◌≡◌, ◌≤◌, length};
-ghost use Rattle.scripts.specs.Forms.{behind, kept_of, rule_of, head_of, head_at};
+ghost use Rattle.scripts.specs.Forms.{journal_kind, policy_kind, head_of, head_at};
+ghost use Rattle.scripts.specs.Readers.{behind};
 
 use crate::bad::Bad;
+use crate::plain::{PlainPolicy, plain_policy};
 use crate::reader::{Reader, bytes_at};
-use crate::shape::Shape;
 
 const VERSION: u8 = 1;
 
 #[derive(Clone, Copy)]
-pub enum Kept {
+pub enum JournalKind {
     Roll,
     Strip,
     RollAndStrip,
@@ -17,44 +18,44 @@ pub enum Kept {
 }
 
 #[derive(Clone, Copy)]
-pub enum Rule {
-    One(Shape),
+pub enum PolicyKind {
+    Plain(PlainPolicy),
     ByClass {
-        below: Shape,
+        below: PlainPolicy,
         class: u8,
-        from: Shape,
+        from: PlainPolicy,
     },
 }
 
 #[derive(Clone, Copy)]
 pub struct Head {
-    pub kept: Kept,
-    pub rule: Rule,
+    pub journal: JournalKind,
+    pub policy: PolicyKind,
     pub used: usize,
 }
 
-fn journal_named(number: u8) -> Result<Kept, Bad>
-    ensures { result ≡ kept_of number }
+fn journal_kind(number: u8) -> Result<JournalKind, Bad>
+    ensures { result ≡ journal_kind number }
 {
     match number {
-        0 => Ok(Kept::Roll),
-        1 => Ok(Kept::Strip),
-        2 => Ok(Kept::RollAndStrip),
-        3 => Ok(Kept::StripAndRoll),
+        0 => Ok(JournalKind::Roll),
+        1 => Ok(JournalKind::Strip),
+        2 => Ok(JournalKind::RollAndStrip),
+        3 => Ok(JournalKind::StripAndRoll),
         _ => Err(Bad::Journal),
     }
 }
 
-fn policy_named(number: u8, class: u8, below: u8, from: u8) -> Result<Rule, Bad>
-    ensures { result ≡ rule_of number class below from }
+fn policy_kind(number: u8, class: u8, below: u8, from: u8) -> Result<PolicyKind, Bad>
+    ensures { result ≡ policy_kind number class below from }
 {
     if number != 3 {
-        return Ok(Rule::One(Shape::numbered(number)?));
+        return Ok(PolicyKind::Plain(plain_policy(number)?));
     }
-    Ok(Rule::ByClass {
-        below: Shape::numbered(below)?,
+    Ok(PolicyKind::ByClass {
+        below: plain_policy(below)?,
         class,
-        from: Shape::numbered(from)?,
+        from: plain_policy(from)?,
     })
 }
 
@@ -65,8 +66,8 @@ fn head_of(bytes: &[u8; 14]) -> Result<Head, Bad>
         return Err(Bad::Head);
     }
     Ok(Head {
-        kept: journal_named(bytes[1])?,
-        rule: policy_named(bytes[2], bytes[3], bytes[4], bytes[5])?,
+        journal: journal_kind(bytes[1])?,
+        policy: policy_kind(bytes[2], bytes[3], bytes[4], bytes[5])?,
         used: u64::from_be_bytes(bytes_at(bytes, 6)) as usize,
     })
 }

@@ -5,9 +5,9 @@ mod bad;
 mod head;
 mod making;
 mod page;
+mod plain;
 mod reader;
 mod running;
-mod shape;
 mod showing;
 mod step;
 

@@ -1,20 +1,19 @@
 // A script, run from its head to its end.
 ghost use Rattle.std.specs.Prelude.{◌≡◌, ℕ, ◌≤◌, List, Ok, Err, length};
 ghost use Rattle.book.specs.States.{policy_of, state_of};
-ghost use Rattle.scripts.specs.Forms.{calls_at, script_at};
-ghost use Rattle.scripts.specs.Readers.{whether, to_run, seen, course_at};
 ghost use Rattle.promise.specs.Histories.{beginning};
 ghost use Rattle.scripts.specs.declared.bad.Bad.{Bad as BadScript};
-ghost use Rattle.scripts.specs.Made.{MadeAll, Over, RanOn};
-ghost use Rattle.scripts.specs.declared.head.Kept.TheVariants.{Roll as OnRoll, Strip as OnStrip, RollAndStrip as OnRollAndStrip, StripAndRoll as OnStripAndRoll};
+ghost use Rattle.scripts.specs.declared.head.JournalKind.TheVariants.{Roll as OnRoll, Strip as OnStrip, RollAndStrip as OnRollAndStrip, StripAndRoll as OnStripAndRoll};
+ghost use Rattle.scripts.specs.Ended.{ending, told, output_after, memory_after};
+ghost use Rattle.scripts.specs.Forms.{Call as Called, calls_at, script_at};
+ghost use Rattle.scripts.specs.Made.{MadeAll, Over, RanOn, Ends};
 ghost use Rattle.scripts.specs.Pages.{Put, PutBefore};
-ghost use Rattle.scripts.specs.Told.{as_8, told_journal};
-ghost use Rattle.scripts.specs.Forms.{Call as Called};
+ghost use Rattle.scripts.specs.Readers.{whether, to_run, seen, course_at};
 ghost use Rattle.scripts.specs.Runs.{policy_named};
-ghost use Rattle.scripts.specs.Ended.{Ran, Ends};
+ghost use Rattle.scripts.specs.Told.{as_8, told_journal};
 
 use crate::bad::Bad;
-use crate::head::{Head, Kept, Rule, read_head};
+use crate::head::{Head, JournalKind, PolicyKind, read_head};
 use crate::making::make;
 use crate::page::Page;
 use crate::reader::Reader;
@@ -111,7 +110,7 @@ fn show_used(page: &mut Page<'_>, shown: Result<(), Bad>, used: usize) -> Result
     }
 }
 
-// One function for each kind of journal, and none of them inlined, so that only one book takes room on the stack. Those
+// Plain function for each kind of journal, and none of them inlined, so that only one book takes room on the stack. Those
 // over a strip give its memory back.
 #[inline(never)]
 fn run_on_roll<P: Policy + Drop>(policy: P, calls: &[u8], page: &mut Page<'_>) -> Result<(), Bad>
@@ -153,9 +152,9 @@ fn run_on_roll_and_strip<'a, P: Policy + Drop>(
 {
     let journal = Mirror::new(Roll::new(), Strip::make(memory, used));
     let (mirror, shown) = run_over(journal, policy, calls, page);
-    let (_roll, strip) = mirror.apart();
-    let ended = show_used(page, shown, strip.used());
-    (strip.give_back(), ended)
+    let (_first, second) = mirror.apart();
+    let ended = show_used(page, shown, second.used());
+    (second.give_back(), ended)
 }
 
 #[inline(never)]
@@ -172,9 +171,9 @@ fn run_on_strip_and_roll<'a, P: Policy + Drop>(
 {
     let journal = Mirror::new(Strip::make(memory, used), Roll::new());
     let (mirror, shown) = run_over(journal, policy, calls, page);
-    let (strip, _roll) = mirror.apart();
-    let ended = show_used(page, shown, strip.used());
-    (strip.give_back(), ended)
+    let (first, _second) = mirror.apart();
+    let ended = show_used(page, shown, first.used());
+    (first.give_back(), ended)
 }
 
 // Over the journal that the head names.
@@ -186,24 +185,25 @@ fn run_by<P: Policy + Drop>(
     page: &mut Page<'_>,
 ) -> Result<(), Bad>
     requires { page.old.next ≤ length page.old.bytes.now }
-    ensures { RanOn (P.Policy.admits policy) memory.old head.now.used head.now.kept calls.now page.old result page.new memory.new }
+    ensures { RanOn (P.Policy.admits policy) memory.old head.now.used head.now.journal calls.now page.old result page.new memory.new }
 {
-    match head.kept {
-        Kept::Roll => run_on_roll(policy, calls, page),
-        Kept::Strip => run_on_strip(memory, head.used, policy, calls, page).1,
-        Kept::RollAndStrip => run_on_roll_and_strip(memory, head.used, policy, calls, page).1,
-        Kept::StripAndRoll => run_on_strip_and_roll(memory, head.used, policy, calls, page).1,
+    let used = head.used;
+    match head.journal {
+        JournalKind::Roll => run_on_roll(policy, calls, page),
+        JournalKind::Strip => run_on_strip(memory, used, policy, calls, page).1,
+        JournalKind::RollAndStrip => run_on_roll_and_strip(memory, used, policy, calls, page).1,
+        JournalKind::StripAndRoll => run_on_strip_and_roll(memory, used, policy, calls, page).1,
     }
 }
 
 // Under the policy that the head names.
 fn run_under(head: &Head, calls: &[u8], memory: &mut [u8], page: &mut Page<'_>) -> Result<(), Bad>
     requires { page.old.next ≤ length page.old.bytes.now }
-    ensures { RanOn (policy_named head.now.rule) memory.old head.now.used head.now.kept calls.now page.old result page.new memory.new }
+    ensures { RanOn (policy_named head.now.policy) memory.old head.now.used head.now.journal calls.now page.old result page.new memory.new }
 {
-    match head.rule {
-        Rule::One(shape) => run_by(head, shape, calls, memory, page),
-        Rule::ByClass { below, class, from } => {
+    match head.policy {
+        PolicyKind::Plain(plain) => run_by(head, plain, calls, memory, page),
+        PolicyKind::ByClass { below, class, from } => {
             run_by(head, ByClass { below, class, from }, calls, memory, page)
         }
     }
@@ -217,7 +217,7 @@ fn run_onto<'a>(
     output: &'a mut [u8],
 ) -> (&'a mut [u8], usize, Result<(), Bad>)
     ensures home { result.0.ghost_name ≡ output.entry.ghost_name }
-    ensures ran { (cs : List Called) → calls_at (length calls.now) calls.now ≡ Ok cs → Ran head.now cs memory.old output.old (result.1, result.2) memory.new result.0.now }
+    ensures ran { (cs : List Called) → calls_at (length calls.now) calls.now ≡ Ok cs → Ends (Ok (head.now, cs)) memory.old output.old (result.1, result.2) memory.new result.0.now }
 {
     let mut page = Page::new(output);
     let ended = run_under(head, calls, memory, &mut page);
@@ -228,7 +228,10 @@ fn run_onto<'a>(
 // Runs a script on a new book, over the memory where it has a strip; how many bytes of the output it wrote, and how it
 // ended. A script that can't be read in whole changes nothing.
 pub fn run(script: &[u8], memory: &mut [u8], output: &mut [u8]) -> (usize, Result<(), Bad>)
-    ensures { Ends (script_at script.now) memory.old output.old result memory.new output.new }
+    ensures ended { result.1 ≡ ending (script_at script.now) memory.old output.old }
+    ensures written { result.0 ≡ length (told (script_at script.now) memory.old output.old) }
+    ensures memory { memory.new ≡ memory_after (script_at script.now) memory.old output.old }
+    ensures output { output.new ≡ output_after (script_at script.now) memory.old output.old }
 {
     match check(script) {
         Ok((head, calls)) => {

@@ -1,7 +1,7 @@
 // One call of a script.
 ghost use Rattle.std.specs.Prelude.{◌≡◌, ◌≤◌, Ok, IfOk, take};
-ghost use Rattle.scripts.specs.Readers.{with_list, Within};
-ghost use Rattle.scripts.specs.Forms.{then_do, orders_at, batch_at, call_at, with_next, behind, at_most, opening_of, action_of, order_of};
+ghost use Rattle.scripts.specs.Readers.{with_list, behind, Within};
+ghost use Rattle.scripts.specs.Forms.{then_do, orders_at, batch_at, call_at, with_next, at_most, opening_of, action_of, order_of};
 
 use crate::bad::Bad;
 use crate::reader::{Reader, bytes_at};

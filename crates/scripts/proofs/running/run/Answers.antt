@@ -1,25 +1,27 @@
-use Rattle.std.proofs.Common.{rules, ◌≡◌, List, ℕ, length, Ok, Err, ap, subst, ◌∙◌}
-use Rattle.scripts.specs.declared.head.Head.{Head}
-use Rattle.scripts.specs.Ended.{Ran, Ends}
-use Rattle.scripts.specs.Forms.{head_at, behind, calls_at, script_at, then_do}
-use Rattle.scripts.specs.Readers.{to_run}
-use Rattle.scripts.proofs.Calls.{parts_of}
+use Rattle.std.proofs.Common.{rules}
+use Rattle.scripts.proofs.Wholly.{as_read, not_read}
 use Rattle.scripts.proofs.running.run.Goals as goal
 
-pub returns-in-Ok : goal.returns-in-Ok
-returns-in-Ok c =
-    let script = c.args.script.now in
-    let h = c.in-Ok.head in
-    let bs = c.in-Ok.calls.now in
-    let m = c.args.memory.now in
-    let o = c.args.output.now in
-    let done = c.run_onto-output.result in
-    let m' = c.run_onto-output.new.memory in
-    let seen_as : Ok (h, bs) ≡ to_run script = c.in-Ok.ensures in
-    subst (λ (o' : List ℕ). Ends (script_at script) m o (done.1, done.2) m' o') (search rules) (record {
-      bad = λ b is. absurd (let no : Ok (h, bs) ≡ Err b = seen_as ∙ ap (λ r. then_do r (λ s. Ok (s.0, behind 14 script))) is in cc no);
-      good = λ h' cs is.
-          let both : (h, bs) ≡ (h', behind 14 script) = (let e : Ok (h, bs) ≡ Ok (h', behind 14 script) = seen_as ∙ ap (λ r. then_do r (λ s. Ok (s.0, behind 14 script))) is in cc) in
-          let read : calls_at (length bs) bs ≡ Ok cs = ap (λ (p : Head × List ℕ). calls_at (length p.1) p.1) both ∙ (parts_of (head_at script) _ h' cs is).1 in
-          subst (λ (h : Head). Ran h cs m o (done.1, done.2) m' done.0.now) (ap (λ p. p.0) both) (c.run_onto-output.ensures.ran cs read);
-    })
+pub returns-in-Ok-clause-ended : goal.returns-in-Ok-clause-ended
+returns-in-Ok-clause-ended c = (as_read c.args.script.now _ _ _ _ _ _ _ c.in-Ok.ensures c.run_onto-output.ensures.ran).ended
+
+pub returns-in-Ok-clause-written : goal.returns-in-Ok-clause-written
+returns-in-Ok-clause-written c = (as_read c.args.script.now _ _ _ _ _ _ _ c.in-Ok.ensures c.run_onto-output.ensures.ran).written
+
+pub returns-in-Ok-clause-memory : goal.returns-in-Ok-clause-memory
+returns-in-Ok-clause-memory c = (as_read c.args.script.now _ _ _ _ _ _ _ c.in-Ok.ensures c.run_onto-output.ensures.ran).memory
+
+pub returns-in-Ok-clause-output : goal.returns-in-Ok-clause-output
+returns-in-Ok-clause-output c = let w = (as_read c.args.script.now _ _ _ _ _ _ _ c.in-Ok.ensures c.run_onto-output.ensures.ran).output in search (rules, w)
+
+pub returns-in-Err-clause-ended : goal.returns-in-Err-clause-ended
+returns-in-Err-clause-ended c = (not_read c.args.script.now _ c.args.memory.now c.args.output.now c.in-Err.ensures).ended
+
+pub returns-in-Err-clause-written : goal.returns-in-Err-clause-written
+returns-in-Err-clause-written c = (not_read c.args.script.now _ c.args.memory.now c.args.output.now c.in-Err.ensures).written
+
+pub returns-in-Err-clause-memory : goal.returns-in-Err-clause-memory
+returns-in-Err-clause-memory c = (not_read c.args.script.now _ c.args.memory.now c.args.output.now c.in-Err.ensures).memory
+
+pub returns-in-Err-clause-output : goal.returns-in-Err-clause-output
+returns-in-Err-clause-output c = (not_read c.args.script.now _ c.args.memory.now c.args.output.now c.in-Err.ensures).output

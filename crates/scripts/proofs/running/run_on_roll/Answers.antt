@@ -9,8 +9,6 @@ returns g c m u =
     let end = c.show_used.ensures in
     let D = done_then _ c.new.result [] 256 c.new.ensures.list c.new.ensures.spare (g.P.Policy.admits c.args.policy) c.args.page.now c.args.calls.now _ _ _ c.run_over-roll.ensures in
     record {
-      used = 0;
       memory = refl;
-      in_use = refl;
       done = used_behind c.args.page.now _ _ (as_8 0) refl _ _ _ _ D end.same end.through end.cut;
     }
