@@ -32,13 +32,14 @@ pub fn take_over(rt: &HostRuntime, memory: &mut [u8], used: usize) -> io::Result
     let (mut told, mut answers, mut lapses, mut bytes) = new_lists();
     let (mut my_told, mut my_answers, mut my_lapses, mut my_bytes) = new_lists();
     let (mut their_told, mut their_answers, mut their_lapses, mut their_bytes) = new_lists();
+    let further = calls(after_the_season());
     let (first, second) = history(
         Roll::new(),
         policy(),
         &calls(season()),
         Strip::make(memory, used),
         policy(),
-        &calls(after_the_season()),
+        &further,
         &orders(),
         &mut desk(&mut told, &mut answers, &mut lapses, &mut bytes),
         &mut desk(&mut my_told, &mut my_answers, &mut my_lapses, &mut my_bytes),
@@ -50,7 +51,7 @@ pub fn take_over(rt: &HostRuntime, memory: &mut [u8], used: usize) -> io::Result
         ),
     );
     println!(rt; "the season once more, over a roll; a second book takes over from the strip")?;
-    for (one, other) in my_told.iter().zip(their_told.iter()).take(11) {
+    for (one, other) in my_told.iter().zip(their_told.iter()).take(further.len()) {
         print!(rt; "first: ")?;
         show_told(rt, one)?;
         print!(rt; "second: ")?;
