@@ -24,24 +24,10 @@ fn new_lists() -> Lists {
     ([Told::Nothing; 10], [Ok(()); 14], [0; 4], [b'-'; 512])
 }
 
-fn desk<'a>(
-    told: &'a mut [Told],
-    answers: &'a mut [Answer],
-    lapses: &'a mut [u32],
-    bytes: &'a mut [u8],
-) -> Desk<'a> {
-    Desk {
-        told,
-        answers,
-        lapses,
-        bytes,
-    }
-}
-
 // The past on a book over an empty journal, and what it wrote there.
 fn written<J: Journal + Drop, P: Policy + Drop>(journal: J, policy: P) -> J {
     let (mut told, mut answers, mut lapses, mut bytes) = new_lists();
-    let mut desk = desk(&mut told, &mut answers, &mut lapses, &mut bytes);
+    let mut desk = Desk::new(&mut told, &mut answers, &mut lapses, &mut bytes);
     let mut book = Book::create(journal, policy);
     run_calls(&mut book, &past(), &orders(), &mut desk);
     let (journal, _) = book.close();
@@ -77,7 +63,7 @@ fn check<J: Journal + Drop, K: Journal + Drop, P: Policy + Drop>(
     let (mut told, mut answers, mut lapses, mut bytes) = new_lists();
     let (mut my_told, mut my_answers, mut my_lapses, mut my_bytes) = new_lists();
     let (mut their_told, mut their_answers, mut their_lapses, mut their_bytes) = new_lists();
-    let (first, second) = history(
+    let (first, second, arrival) = history(
         journal,
         policy,
         &past(),
@@ -85,9 +71,9 @@ fn check<J: Journal + Drop, K: Journal + Drop, P: Policy + Drop>(
         again,
         &further(),
         &orders(),
-        &mut desk(&mut told, &mut answers, &mut lapses, &mut bytes),
-        &mut desk(&mut my_told, &mut my_answers, &mut my_lapses, &mut my_bytes),
-        &mut desk(
+        &mut Desk::new(&mut told, &mut answers, &mut lapses, &mut bytes),
+        &mut Desk::new(&mut my_told, &mut my_answers, &mut my_lapses, &mut my_bytes),
+        &mut Desk::new(
             &mut their_told,
             &mut their_answers,
             &mut their_lapses,
@@ -95,6 +81,8 @@ fn check<J: Journal + Drop, K: Journal + Drop, P: Policy + Drop>(
         ),
     );
     assert!(rt; first.reading().is_ok() && second.reading().is_ok());
+    // between past and further calls the second book moves on, and one reservation lapses there too
+    assert_eq!(rt; numbers(&Told::Moved(arrival)), (0, 1));
     check_told(rt, &told, before);
     check_told(rt, &my_told, after);
     check_told(rt, &their_told, after);
