@@ -14,9 +14,9 @@ use Rattle.book.specs.Called.{Created}
 use Rattle.book.specs.States.{policy_of, state_of}
 use Rattle.promise.specs.declared.call.Call.{Call}
 use Rattle.promise.specs.declared.desk.Desk.{Desk}
-use Rattle.promise.specs.Histories.{beginning}
-use Rattle.promise.specs.Made.{Made}
-use Rattle.promise.specs.Worlds.{World, final, adds_all}
+use Rattle.promise.specs.Histories.{with_desk, beginning}
+use Rattle.promise.specs.Made.{CallsAll}
+use Rattle.promise.specs.Worlds.{World, adds_all}
 use Rattle.promise.proofs.Living.{same-final, same-adds}
 use Rattle.clients.specs.Seasons.{season, before_all, then_was}
 
@@ -38,20 +38,20 @@ module _ {J : Type 0} (j : journal.Ghosts J) (x : J) (empty : j.entries x ≡ []
       let T = ap (λ es. start_of (reading_of season (records_of es)) (records_of es)) empty in
       λ i. at_first (record { journal = J i; moment = T i; spare = spare i })
 
-  module _ {P : Type 0} (p : policy.Ghosts P) (y : P) (is : p.admits y ≡ season) (A A1 : Book J P j p) (made : Created j p x y A) (os : List Order) (past : List Call) (d' : Desk)
-      (run : Made j p A (final (policy_of j p A) os (at_first (state_of j p A)) past) (adds_all (policy_of j p A) os (at_first (state_of j p A)) past) A1 d') where
+  module _ {P : Type 0} (p : policy.Ghosts P) (y : P) (is : p.admits y ≡ season) (A A1 : Book J P j p) (made : Created j p x y A) (os : List Order) (past : List Call) (d d' : Desk) (new : with_desk (state_of j p A) d ≡ at_first (state_of j p A))
+      (run : CallsAll j p os A d past A1 d') where
     policy_is : policy_of j p A ≡ season
     policy_is = ap p.admits made.policy ∙ is
 
-    start : at_first (state_of j p A) ≡ before_all
+    start : with_desk (state_of j p A) d ≡ before_all
     start =
         let w : at_first (state_of j p A) ≡ at_first (beginning j (p.admits y) x) = λ i. at_first (record { journal = journal_of j (made.journal i); moment = made.moment i; spare = j.spare (made.journal i) }) in
-        w ∙ (ap (λ a. at_first (beginning j a x)) is ∙ begins)
+        new ∙ (w ∙ (ap (λ a. at_first (beginning j a x)) is ∙ begins))
 
     pub writes : j.entries A1.journal ≡ entries_of (adds_all season os before_all past)
     writes =
-        run.wrote.entries ∙ (ap (λ v. j.entries v ++ entries_of (adds_all (policy_of j p A) os (at_first (state_of j p A)) past)) made.journal
-        ∙ (ap (λ es. es ++ entries_of (adds_all (policy_of j p A) os (at_first (state_of j p A)) past)) empty ∙ ap entries_of (same-adds policy_is start os past)))
+        run.wrote.entries ∙ (ap (λ v. j.entries v ++ entries_of (adds_all (policy_of j p A) os (with_desk (state_of j p A) d) past)) made.journal
+        ∙ (ap (λ es. es ++ entries_of (adds_all (policy_of j p A) os (with_desk (state_of j p A) d) past)) empty ∙ ap entries_of (same-adds policy_is start os past)))
 
     pub leaves : j.spare A1.journal ≡ (then_was os past).spare
     leaves = ap (λ (w : World). w.state.spare) (run.world ∙ same-final policy_is start os past)

@@ -7,7 +7,7 @@ ghost use Rattle.clients.specs.Seasons.{season, before_all, then_was};
 
 use book::Book;
 use journal::{Journal, Mirror, Roll};
-use meaning::Order;
+use meaning::{Moved, Order, Refusal};
 use policy::{ByClass, Ceiling, Floor, Open, Policy};
 use promise::histories::history;
 use promise::runs::run_calls;
@@ -39,12 +39,7 @@ fn written(past: &[Call], orders: &[Order]) -> Mirror<Roll, Roll>
     let mut answers = [Ok(()); 64];
     let mut lapses = [0; 256];
     let mut bytes = [0; 4096];
-    let mut desk = Desk {
-        told: &mut told,
-        answers: &mut answers,
-        lapses: &mut lapses,
-        bytes: &mut bytes,
-    };
+    let mut desk = Desk::new(&mut told, &mut answers, &mut lapses, &mut bytes);
     let mut book = Book::create(Mirror::new(Roll::new(), Roll::new()), season());
     run_calls(&mut book, past, orders, &mut desk);
     let (journal, _) = book.close();
@@ -52,26 +47,26 @@ fn written(past: &[Call], orders: &[Order]) -> Mirror<Roll, Roll>
 }
 
 // Makes the past on a first book, over one roll. A second book takes over from what the past has written into two, and
-// every further call is made on both. Where the desks are alike, so is all that follows.
+// every further call is made on both. Where the desks are alike, so is all that follows. The last of the result is what
+// the second book's move to the first one's moment answers.
 pub fn hand_over(
     past: &[Call],
     further: &[Call],
     orders: &[Order],
     mine: &mut Desk<'_>,
     theirs: &mut Desk<'_>,
-) -> (Book<Roll, Season>, Book<Mirror<Roll, Roll>, Season>)
-    ensures { HandedOver ⟦<Roll as Journal>⟧ ⟦<Season as Policy>⟧ ⟦<Mirror<Roll, Roll> as Journal>⟧ ⟦<Season as Policy>⟧ orders.now past.now further.now mine.old theirs.old mine.new theirs.new result.0 result.1 }
+) -> (
+    Book<Roll, Season>,
+    Book<Mirror<Roll, Roll>, Season>,
+    Result<Moved, Refusal>,
+)
+    ensures { HandedOver ⟦<Roll as Journal>⟧ ⟦<Season as Policy>⟧ ⟦<Mirror<Roll, Roll> as Journal>⟧ ⟦<Season as Policy>⟧ orders.now past.now further.now mine.old theirs.old mine.new theirs.new result.0 result.1 result.2 }
 {
     let mut told = [Told::Nothing; 16];
     let mut answers = [Ok(()); 64];
     let mut lapses = [0; 256];
     let mut bytes = [0; 4096];
-    let mut before = Desk {
-        told: &mut told,
-        answers: &mut answers,
-        lapses: &mut lapses,
-        bytes: &mut bytes,
-    };
+    let mut before = Desk::new(&mut told, &mut answers, &mut lapses, &mut bytes);
     let standby = written(past, orders);
     history(
         Roll::new(),

@@ -7,7 +7,7 @@ const FARM: u64 = 0x4641_524d_2020_2020;
 // Litres that every account may be short of, or may hold.
 const LIMIT: u64 = 500;
 
-pub fn orders() -> [Order; 13] {
+pub fn orders() -> [Order; 14] {
     [
         order(1, false, transfer(1, 2, 400)),
         order(2, false, reserve(1, 2, 50, 60)),
@@ -21,11 +21,13 @@ pub fn orders() -> [Order; 13] {
         order(8, false, transfer(1, 2, 600)),
         // one that lapses
         order(9, false, reserve(1, 2, 10, 100)),
+        // one that passes the limits, but not where the first account has a floor and the second a ceiling
+        order(10, false, transfer(2, 1, 1200)),
         // what follows: two closings too late or twice, one in time, and one more that lapses
-        order(10, false, post(9, 10)),
-        order(11, false, post(2, 5)),
-        order(12, false, Action::Void { reservation: 3 }),
-        order(13, false, reserve(2, 1, 7, 50)),
+        order(11, false, post(9, 10)),
+        order(12, false, post(2, 5)),
+        order(13, false, Action::Void { reservation: 3 }),
+        order(14, false, reserve(2, 1, 7, 50)),
     ]
 }
 
@@ -37,7 +39,7 @@ pub fn past() -> [Call; 9] {
         call(3, run(0, 3)),
         call(4, move_to(59)),
         call(5, run(3, 7)),
-        call(6, run(7, 9)),
+        call(6, run(7, 10)),
         call(7, move_to(20)),
         call(8, move_to(159)),
     ]
@@ -45,7 +47,7 @@ pub fn past() -> [Call; 9] {
 
 pub fn further() -> [Call; 10] {
     [
-        call(0, run(9, 13)),
+        call(0, run(10, 14)),
         call(1, move_to(1 << 40)),
         call(2, move_to(209)),
         call(3, Ask::Open(opening(3))),

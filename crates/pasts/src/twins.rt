@@ -12,33 +12,22 @@ use promise::{Desk, Told};
 use std::process::Abort;
 use std::test::Fail;
 
-type Lists = ([Told; 10], [Answer; 13], [u32; 4], [u8; 512]);
+type Lists = ([Told; 10], [Answer; 14], [u32; 4], [u8; 512]);
+
+// What the calls on a desk are told, as numbers.
+type Numbers = [(u8, u64); 10];
 
 // A strip over this memory takes as many entries as a roll.
 const MEMORY: usize = 12289;
 
 fn new_lists() -> Lists {
-    ([Told::Nothing; 10], [Ok(()); 13], [0; 4], [b'-'; 512])
-}
-
-fn desk<'a>(
-    told: &'a mut [Told],
-    answers: &'a mut [Answer],
-    lapses: &'a mut [u32],
-    bytes: &'a mut [u8],
-) -> Desk<'a> {
-    Desk {
-        told,
-        answers,
-        lapses,
-        bytes,
-    }
+    ([Told::Nothing; 10], [Ok(()); 14], [0; 4], [b'-'; 512])
 }
 
 // The past on a book over an empty journal, and what it wrote there.
 fn written<J: Journal + Drop, P: Policy + Drop>(journal: J, policy: P) -> J {
     let (mut told, mut answers, mut lapses, mut bytes) = new_lists();
-    let mut desk = desk(&mut told, &mut answers, &mut lapses, &mut bytes);
+    let mut desk = Desk::new(&mut told, &mut answers, &mut lapses, &mut bytes);
     let mut book = Book::create(journal, policy);
     run_calls(&mut book, &past(), &orders(), &mut desk);
     let (journal, _) = book.close();
@@ -57,17 +46,24 @@ fn check_entries<J: Journal, K: Journal>(rt: &impl Abort, one: &J, other: &K) ->
     Ok(())
 }
 
+// What the calls were told, place by place.
+fn check_told(rt: &impl Abort, told: &[Told; 10], expected: Numbers) {
+    for (at, (one, expected)) in told.iter().zip(expected).enumerate() {
+        assert_eq!(rt; numbers(one), expected, "{}", at);
+    }
+}
+
 // Makes the past and what follows on both, over journals that are empty at first; three times the same policy.
 fn check<J: Journal + Drop, K: Journal + Drop, P: Policy + Drop>(
     rt: &impl Abort,
     (journal, other): (J, K),
     (policy, same, again): (P, P, P),
-    expected: [(u8, u64); 10],
+    (before, after): (Numbers, Numbers),
 ) -> Result<(), Fail> {
     let (mut told, mut answers, mut lapses, mut bytes) = new_lists();
     let (mut my_told, mut my_answers, mut my_lapses, mut my_bytes) = new_lists();
     let (mut their_told, mut their_answers, mut their_lapses, mut their_bytes) = new_lists();
-    let (first, second) = history(
+    let (first, second, arrival) = history(
         journal,
         policy,
         &past(),
@@ -75,9 +71,9 @@ fn check<J: Journal + Drop, K: Journal + Drop, P: Policy + Drop>(
         again,
         &further(),
         &orders(),
-        &mut desk(&mut told, &mut answers, &mut lapses, &mut bytes),
-        &mut desk(&mut my_told, &mut my_answers, &mut my_lapses, &mut my_bytes),
-        &mut desk(
+        &mut Desk::new(&mut told, &mut answers, &mut lapses, &mut bytes),
+        &mut Desk::new(&mut my_told, &mut my_answers, &mut my_lapses, &mut my_bytes),
+        &mut Desk::new(
             &mut their_told,
             &mut their_answers,
             &mut their_lapses,
@@ -85,11 +81,11 @@ fn check<J: Journal + Drop, K: Journal + Drop, P: Policy + Drop>(
         ),
     );
     assert!(rt; first.reading().is_ok() && second.reading().is_ok());
-    let both = my_told.iter().zip(their_told.iter());
-    for (at, ((mine, theirs), expected)) in both.zip(expected).enumerate() {
-        assert_eq!(rt; numbers(mine), expected, "{}", at);
-        assert_eq!(rt; numbers(theirs), expected, "{}", at);
-    }
+    // between past and further calls the second book moves on, and one reservation lapses there too
+    assert_eq!(rt; numbers(&Told::Moved(arrival)), (0, 1));
+    check_told(rt, &told, before);
+    check_told(rt, &my_told, after);
+    check_told(rt, &their_told, after);
     assert!(rt;
         my_answers == their_answers && my_lapses == their_lapses && my_bytes == their_bytes
     );
@@ -97,9 +93,23 @@ fn check<J: Journal + Drop, K: Journal + Drop, P: Policy + Drop>(
     check_entries(rt, &one, &other)
 }
 
-// What the further calls are told, where so much is posted between the two accounts and the listing is so long.
-fn expected(posted: u64, length: u64) -> [(u8, u64); 10] {
-    [
+// What the past and the further calls are told, where the past's last batch has so many orders that are taken, so much
+// is posted from the first account in all, and the listing is so long.
+fn expected(taken: u64, posted: u64, length: u64) -> (Numbers, Numbers) {
+    let past = [
+        (0, 0),
+        (0, 0),
+        (41, 0),
+        (0, 3),
+        (0, 0),
+        (0, 2),
+        (0, taken),
+        (52, 0),
+        (0, 1),
+        // no call is told at this place
+        (255, 0),
+    ];
+    let further = [
         (0, 2),
         (51, 0),
         (0, 1),
@@ -110,20 +120,21 @@ fn expected(posted: u64, length: u64) -> [(u8, u64); 10] {
         (0, 0),
         (56, 0),
         (0, length),
-    ]
+    ];
+    (past, further)
 }
 
 #[test]
 fn open_over_two_rolls(rt: HostRuntime) -> Result<(), Fail> {
     let rolls = (Roll::new(), Roll::new());
-    check(&rt, rolls, (Open, Open, Open), expected(1065, 77))
+    check(&rt, rolls, (Open, Open, Open), expected(3, 1065, 83))
 }
 
 #[test]
 fn floor_over_a_strip_and_a_roll(rt: HostRuntime) -> Result<(), Fail> {
     let mut memory = [7; MEMORY];
     let journals = (Strip::make(&mut memory, 0), Roll::new());
-    check(&rt, journals, (Floor, Floor, Floor), expected(465, 73))
+    check(&rt, journals, (Floor, Floor, Floor), expected(1, 465, 73))
 }
 
 #[test]
@@ -135,7 +146,7 @@ fn ceiling_over_a_mirror_and_a_strip(rt: HostRuntime) -> Result<(), Fail> {
         &rt,
         journals,
         (Ceiling, Ceiling, Ceiling),
-        expected(465, 73),
+        expected(1, 465, 73),
     )
 }
 
@@ -155,6 +166,6 @@ fn by_class_over_mirrors(rt: HostRuntime) -> Result<(), Fail> {
         &rt,
         journals,
         (mixed(), mixed(), mixed()),
-        expected(465, 73),
+        expected(2, 465, 81),
     )
 }

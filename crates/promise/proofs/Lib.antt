@@ -3,4 +3,5 @@ pub mod Turns
 pub mod Kept
 pub mod Few
 pub mod Living
+pub mod Second
 pub mod Twins

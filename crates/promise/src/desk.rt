@@ -12,6 +12,24 @@ pub struct Desk<'a> {
     pub bytes: &'a mut [u8],
 }
 
+impl<'a> Desk<'a> {
+    pub fn new(
+        told: &'a mut [Told],
+        answers: &'a mut [Answer],
+        lapses: &'a mut [u32],
+        bytes: &'a mut [u8],
+    ) -> Desk<'a>
+        ensures { result ≡ record { told = told.entry; answers = answers.entry; lapses = lapses.entry; bytes = bytes.entry } }
+    {
+        Desk {
+            told,
+            answers,
+            lapses,
+            bytes,
+        }
+    }
+}
+
 // Writes what is told at its place, if there is one. `get_mut` needs as many lines.
 pub(crate) fn put(told: &mut [Told], at: usize, what: Told)
     ensures { told.new ≡ slice_set told.old at what }

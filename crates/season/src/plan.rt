@@ -81,7 +81,7 @@ pub fn season() -> [Ask; 15] {
     ]
 }
 
-pub fn after_the_season() -> [Ask; 11] {
+pub fn after_the_season() -> [Ask; 12] {
     [
         Ask::Open(opening(TOWN, STORE, 100, "TOWN")),
         Ask::Open(opening(FARM, USER, 0, "FARM")),
@@ -90,6 +90,7 @@ pub fn after_the_season() -> [Ask; 11] {
         move_to(1660),
         move_to(1000),
         Ask::Account(TOWN),
+        Ask::Account(MILL),
         Ask::Reservation(10),
         Ask::Moment,
         Ask::Reading,

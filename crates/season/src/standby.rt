@@ -14,35 +14,22 @@ fn new_lists() -> Lists {
     ([Told::Nothing; 16], [Ok(()); 16], [0; 8], [0; 1024])
 }
 
-fn desk<'a>(
-    told: &'a mut [Told],
-    answers: &'a mut [Answer],
-    lapses: &'a mut [u32],
-    bytes: &'a mut [u8],
-) -> Desk<'a> {
-    Desk {
-        told,
-        answers,
-        lapses,
-        bytes,
-    }
-}
-
 pub fn take_over(rt: &HostRuntime, memory: &mut [u8], used: usize) -> io::Result<()> {
     let (mut told, mut answers, mut lapses, mut bytes) = new_lists();
     let (mut my_told, mut my_answers, mut my_lapses, mut my_bytes) = new_lists();
     let (mut their_told, mut their_answers, mut their_lapses, mut their_bytes) = new_lists();
-    let (first, second) = history(
+    let further = calls(after_the_season());
+    let (first, second, arrival) = history(
         Roll::new(),
         policy(),
         &calls(season()),
         Strip::make(memory, used),
         policy(),
-        &calls(after_the_season()),
+        &further,
         &orders(),
-        &mut desk(&mut told, &mut answers, &mut lapses, &mut bytes),
-        &mut desk(&mut my_told, &mut my_answers, &mut my_lapses, &mut my_bytes),
-        &mut desk(
+        &mut Desk::new(&mut told, &mut answers, &mut lapses, &mut bytes),
+        &mut Desk::new(&mut my_told, &mut my_answers, &mut my_lapses, &mut my_bytes),
+        &mut Desk::new(
             &mut their_told,
             &mut their_answers,
             &mut their_lapses,
@@ -50,11 +37,10 @@ pub fn take_over(rt: &HostRuntime, memory: &mut [u8], used: usize) -> io::Result
         ),
     );
     println!(rt; "the season once more, over a roll; a second book takes over from the strip")?;
-    for (one, other) in my_told.iter().zip(their_told.iter()).take(11) {
-        print!(rt; "first: ")?;
-        show_told(rt, one)?;
-        print!(rt; "second: ")?;
-        show_told(rt, other)?;
+    show(rt, "second", &Told::Moved(arrival))?;
+    for (one, other) in my_told.iter().zip(their_told.iter()).take(further.len()) {
+        show(rt, "first", one)?;
+        show(rt, "second", other)?;
     }
     show_answers(rt, "first", &my_answers)?;
     show_answers(rt, "second", &their_answers)?;
@@ -64,6 +50,11 @@ pub fn take_over(rt: &HostRuntime, memory: &mut [u8], used: usize) -> io::Result
     let ((roll, _), (strip, _)) = (first.close(), second.close());
     let (entries, others) = (roll.count(), strip.count());
     println!(rt; "entries: {entries} and {others}")
+}
+
+fn show(rt: &HostRuntime, whose: &str, told: &Told) -> io::Result<()> {
+    print!(rt; "{whose}: ")?;
+    show_told(rt, told)
 }
 
 fn show_answers(rt: &HostRuntime, whose: &str, answers: &[Answer]) -> io::Result<()> {

@@ -77,3 +77,21 @@ fn what_lapses(rt: HostRuntime) -> Result<(), Fail> {
     }
     Ok(())
 }
+
+#[test]
+fn as_many_lapses_as_a_list_takes(rt: HostRuntime) {
+    // eight are due at 60; places; answer
+    for (places, answer) in [(7, 53), (8, 0)] {
+        let mut book = Book::create(Roll::new(), Open);
+        assert!(rt; open_many(&mut book, 2).is_ok());
+        for number in 1..=8 {
+            assert!(rt; run_one(&mut book, number, reserve(1, 2, 1, 60)).is_ok());
+        }
+        assert_eq!(rt;
+            number_of(&move_to(&mut book, 60, places)),
+            answer,
+            "{}",
+            places
+        );
+    }
+}

@@ -1,14 +1,16 @@
-use Rattle.std.proofs.Common.{◌≡◌, None, sym, refl, ap, ◌∙◌, subst}
+use Rattle.std.proofs.Common.{◌≡◌, ◌++◌, None, Ok, sym, refl, ap, ◌∙◌, subst}
 use Rattle.meaning.specs.Calls.{State}
 use Rattle.meaning.specs.Given.{latest}
 use Rattle.meaning.specs.Moves.{move_refused}
 use Rattle.meaning.specs.Reading.{reading as reading_of}
-use Rattle.steps.specs.Written.{records_of}
+use Rattle.steps.specs.Written.{records_of, journal_of, entries_of}
 use Rattle.steps.proofs.Writes.{wrote_then}
-use Rattle.promise.specs.Worlds.{World}
+use Rattle.promise.specs.Histories.{with_desk, beginning}
+use Rattle.promise.specs.Worlds.{World, final, adds_all}
 use Rattle.promise.proofs.Kept.{keeps_all}
 use Rattle.promise.proofs.Living.{lived}
-use Rattle.promise.proofs.Twins.{wrote_alike, took}
+use Rattle.promise.proofs.Second.{came}
+use Rattle.promise.proofs.Twins.{wrote_alike, meets, took}
 use Rattle.promise.proofs.histories.history.Goals as goal
 
 pub returns : goal.returns
@@ -23,7 +25,7 @@ returns g c =
     let A1 = c.run_calls.new.book in
     let A2 = c.run_calls-2.new.book in
     let B = c.create-second.result in
-    let B1 = c.move_to.new.self in
+    let B1 = c.move_to-arrival.new.self in
     let B2 = c.run_calls-3.new.book in
     let before' = c.run_calls.new.desk in
     let mine' = c.run_calls-2.new.desk in
@@ -32,33 +34,42 @@ returns g c =
     let one = c.run_calls.ensures.made in
     let two = c.run_calls-2.ensures.made in
     let twin = c.create-second.ensures in
-    let went = c.move_to.ensures in
+    let went = c.move_to-arrival.ensures in
     let three = c.run_calls-3.ensures.made in
     let L = lived j p os a.journal a.policy a.past.now a.further.now a.before.now a.mine.now before' mine' A A1 A2 made one two in
+    let S = came k q a.other a.other_policy B B1 B2 os a.further.now a.theirs.now theirs' c.moment.result _ _ _ twin went three (c.moment.ensures ∙ ap (λ (s : State). s.moment) L.mid) in
+    let admits = p.admits a.policy in
+    let was = (final admits os (with_desk (beginning j admits a.journal) a.before.now) a.past.now).state in
+    let J = ap (λ (s : State). s.journal) L.mid in
+    let list : k.entries a.other ≡ j.entries a.journal ++ entries_of (adds_all admits os (with_desk (beginning j admits a.journal) a.before.now) a.past.now) → journal_of k a.other ≡ was.journal = λ e. ap records_of (e ∙ sym L.wrote_past.entries) ∙ J in
+    let here : reading_of admits (journal_of j a.journal) ≡ Ok tt → reading_of admits was.journal ≡ Ok tt = λ e. ap (reading_of admits) (sym J) ∙ L.mid_through e in
+    let arrives : reading_of admits (journal_of j a.journal) ≡ Ok tt → move_refused was.journal (latest was.journal) was.moment 256 ≡ None = λ e. subst (λ (s : State). move_refused s.journal (latest s.journal) s.moment 256 ≡ None) L.mid (L.mid_arrives e) in
     record {
       past_told = L.was_told;
       first_told = L.is_told;
       wrote = wrote_then j a.journal A1.journal A2.journal _ _ L.wrote_past L.wrote_further;
       policy = L.policy_end;
       reading = L.reading_end;
+      second_moved = S.answer;
+      second_told = S.told;
+      second_wrote = S.wrote;
+      second_policy = S.policy;
+      second_reading = S.reading;
       keeps = λ through. keeps_all j p A2 (g.met.P.Policy.lawful A2.policy) (L.reading_end ∙ through);
+      meets = λ through same entries spare. meets k admits _ _ a.other same (list entries) spare (here through) (arrives through) S.answer;
       twin = λ through same entries spare alike.
-          let J = ap (λ (s : State). s.journal) L.mid in
-          let admits = p.admits a.policy in
-          let list = ap records_of (entries ∙ sym L.wrote_past.entries) ∙ J in
-          let arrives = subst (λ (s : State). move_refused s.journal (latest s.journal) s.moment 256 ≡ None) L.mid (L.mid_arrives through) in
-          let S = took k q admits _ a.other a.other_policy B B1 B2 os a.further.now a.mine.now a.theirs.now theirs' c.moment.result _ _ _ twin went three same list spare refl (c.moment.ensures ∙ ap (λ (s : State). s.moment) L.mid) (ap (reading_of admits) (sym J) ∙ L.mid_through through) arrives alike in
-          let equal = S.ended ∙ sym L.is_told in
+          let T = took k admits _ _ a.other same (list entries) spare (here through) (arrives through) q os a.further.now a.mine.now a.theirs.now theirs' B2 _ S alike in
+          let equal = T.ended ∙ sym L.is_told in
           record {
-            policy = S.policy_end;
-            through = S.still_through;
-            arrives = S.move_goes;
+            policy = T.policy_end;
+            through = T.still_through;
+            arrives = T.move_goes;
             alike = record { told = ap (λ (w : World). w.told) equal; answers = ap (λ (w : World). w.answers) equal; lapses = ap (λ (w : World). w.lapses) equal; bytes = ap (λ (w : World). w.bytes) equal };
-            entries = wrote_alike L.wrote_further S.wrote_all (entries ∙ sym L.wrote_past.entries);
+            entries = wrote_alike L.wrote_further T.wrote_all (entries ∙ sym L.wrote_past.entries);
             spare = ap (λ (w : World). w.state.spare) equal;
             moment = ap (λ (w : World). w.state.moment) equal;
-            wrote = S.wrote_all;
-            keeps = keeps_all k q B2 (g.met.Q.Policy.lawful B2.policy) S.still_through;
+            wrote = T.wrote_all;
+            keeps = keeps_all k q B2 (g.met.Q.Policy.lawful B2.policy) T.still_through;
           };
       empty = refl;
     }
