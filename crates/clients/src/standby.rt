@@ -1,6 +1,7 @@
 // A standby book takes over from another, over another kind of journal. Nothing is assumed of past and further calls.
 ghost use Rattle.std.specs.Prelude.{◌≡◌};
 ghost use Rattle.steps.specs.Written.{entries_of};
+ghost use Rattle.promise.specs.Made.{Same};
 ghost use Rattle.promise.specs.Worlds.{adds_all};
 ghost use Rattle.clients.specs.Handed.{HandedOver};
 ghost use Rattle.clients.specs.Seasons.{season, before_all, then_was};
@@ -60,7 +61,8 @@ pub fn hand_over(
     Book<Mirror<Roll, Roll>, Season>,
     Result<Moved, Refusal>,
 )
-    ensures { HandedOver ⟦<Roll as Journal>⟧ ⟦<Season as Policy>⟧ ⟦<Mirror<Roll, Roll> as Journal>⟧ ⟦<Season as Policy>⟧ orders.now past.now further.now mine.old theirs.old mine.new theirs.new result.0 result.1 result.2 }
+    ensures same { Same mine.old mine.new × Same theirs.old theirs.new }
+    ensures handed { HandedOver ⟦<Roll as Journal>⟧ ⟦<Season as Policy>⟧ ⟦<Mirror<Roll, Roll> as Journal>⟧ ⟦<Season as Policy>⟧ orders.now past.now further.now mine.old theirs.old mine.new theirs.new result.0 result.1 result.2 }
 {
     let mut told = [Told::Nothing; 16];
     let mut answers = [Ok(()); 64];

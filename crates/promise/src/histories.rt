@@ -1,4 +1,5 @@
 // Whole runs: any past, and any further calls on a book and on one that takes over from it.
+ghost use Rattle.promise.specs.Made.{Same};
 ghost use Rattle.promise.specs.Histories.{History};
 
 use crate::call::Call;
@@ -25,7 +26,8 @@ pub fn history<J: Journal, P: Policy, K: Journal, Q: Policy>(
     mine: &mut Desk<'_>,
     theirs: &mut Desk<'_>,
 ) -> (Book<J, P>, Book<K, Q>, Result<Moved, Refusal>)
-    ensures { History J.Journal P.Policy K.Journal Q.Policy (P.Policy.admits policy) orders.now journal past.now further.now before.old mine.old other other_policy theirs.old before.new mine.new theirs.new result.0 result.1 result.2 }
+    ensures same { Same before.old before.new × Same mine.old mine.new × Same theirs.old theirs.new }
+    ensures history { History J.Journal P.Policy K.Journal Q.Policy (P.Policy.admits policy) orders.now journal past.now further.now before.old mine.old other other_policy theirs.old before.new mine.new theirs.new result.0 result.1 result.2 }
 {
     let mut first = Book::create(journal, policy);
     run_calls(&mut first, past, orders, before);

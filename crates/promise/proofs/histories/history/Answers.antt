@@ -13,8 +13,8 @@ use Rattle.promise.proofs.Second.{came}
 use Rattle.promise.proofs.Twins.{wrote_alike, meets, took}
 use Rattle.promise.proofs.histories.history.Goals as goal
 
-pub returns : goal.returns
-returns g c =
+pub returns-clause-history : goal.returns-clause-history
+returns-clause-history g c =
     let j = g.J.Journal in
     let p = g.P.Policy in
     let k = g.K.Journal in
