@@ -51,3 +51,14 @@ invariant_of-self-2 g c =
     let w = move_within K b.moment c.args.moment (length c.args.lapses.now) not in
     let kept = kept_on j p b R c.move_on.new.balances c.args.moment w.0 w.1 (e.tables ∙ ap (λ o. image_of K (unless o c.args.moment b.moment)) not) in
     record { read = kept.read; begun = kept.begun; in_time = kept.in_time; tables = kept.tables }
+
+pub returns : goal.returns
+returns g c =
+    let j = g.J.Journal in
+    let p = g.P.Policy in
+    let b = c.args.self.now in
+    let R = running j p b c.in_ok-require_read.ensures in
+    let K = journal_of j b.journal in
+    let e = c.in_ok-moved.ensures (policy_of j p b) K (reads j p b R) R.runs.tables in
+    let not = taken_by (move_refused K b.moment c.args.moment (length c.args.lapses.now)) (moved K b.moment c.args.moment) _ e.answer in
+    moved_on j p b _ refl refl R c.args.moment c.args.lapses.now c.move_on.new.lapses _ (books_of c.move_on.new.balances) e refl (sym (ap (λ o. unless o c.args.moment b.moment) not))
