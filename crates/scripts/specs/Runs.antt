@@ -1,4 +1,5 @@
--- The policies and journals that a head can name, and what a journal leaves in the memory and is told at the end.
+-- The policies and journals that a head can name; what such a journal finds and leaves in the memory, and what is told of
+-- it at the end.
 use Rattle.std.specs.Prelude.{ℕ, ◌-◌, min, List, [], ◌++◌, length}
 use Rattle.meaning.specs.declared.entry.Entry.{Entry}
 use Rattle.meaning.specs.declared.record.Record.{Record}
