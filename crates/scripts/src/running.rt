@@ -110,7 +110,7 @@ fn show_used(page: &mut Page<'_>, shown: Result<(), Bad>, used: usize) -> Result
     }
 }
 
-// Plain function for each kind of journal, and none of them inlined, so that only one book takes room on the stack. Those
+// One function for each kind of journal, and none of them inlined, so that only one book takes room on the stack. Those
 // over a strip give its memory back.
 #[inline(never)]
 fn run_on_roll<P: Policy + Drop>(policy: P, calls: &[u8], page: &mut Page<'_>) -> Result<(), Bad>
