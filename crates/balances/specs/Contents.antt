@@ -45,11 +45,11 @@ held_asked k n = cond (nat_lt (held_place k n) (length k.held)) (Some (slice_ind
 
 -- the row at a place, changed
 abbrev pub with_row : (Standing → Standing) → ℕ → Books → Books
-with_row f i k = record { rows = slice_set k.rows i (f (slice_index_or k.rows i no_row)); held = k.held; highest = k.highest; queue = k.queue; lines = k.lines }
+with_row f i k = record k { rows = slice_set k.rows i (f (slice_index_or k.rows i no_row)) }
 
 abbrev pub line_of : Standing → Line
 line_of s = record { ledger = s.account.ledger; label = s.account.label; number = s.account.number }
 
 -- one account more, unless there are 64 already
 abbrev pub opened_with : Standing → Books → Books
-opened_with s k = cond (nat_lt (length k.rows) 64) (record { rows = k.rows ++ (s ∷ []); held = k.held; highest = k.highest; queue = k.queue; lines = listed (line_of s) k.lines }) k
+opened_with s k = cond (nat_lt (length k.rows) 64) (record k { rows = k.rows ++ (s ∷ []); lines = listed (line_of s) k.lines }) k

@@ -1,11 +1,10 @@
 -- Which legs the tables refuse, and what they show the policy.
-use Rattle.std.specs.Prelude.{ℕ, ◌+◌, ◌-◌, ◌^◌, min, not, ◌||◌, [], ◌∷◌, length, Some, None, Ok, Err, Option, Result, ◌==◌, nat_le, nat_lt}
+use Rattle.std.specs.Prelude.{ℕ, ◌+◌, ◌-◌, ◌^◌, min, not, [], ◌∷◌, length, Some, None, Ok, Err, Option, Result, ◌==◌, nat_le}
 use Rattle.meaning.specs.declared.reservation.Reservation.{Reservation}
 use Rattle.meaning.specs.declared.refusal.Refusal.{Refusal}
-use Rattle.meaning.specs.declared.refusal.Refusal.TheVariants.{ChainTooLong, OrderNumber, Amount, DebitUnknown, CreditUnknown, SameAccount, LedgersDiffer, TopPassed, ReservationsFull, ReservationUnknown, AlreadyPosted, AlreadyVoided, AlreadyLapsed, PostAmount}
-use Rattle.meaning.specs.declared.fate.Fate.{Fate}
-use Rattle.meaning.specs.declared.fate.Fate.TheVariants.{Live, Posted, Voided, Lapsed}
-use Rattle.meaning.specs.Sound.{top, fits}
+use Rattle.meaning.specs.declared.refusal.Refusal.TheVariants.{ChainTooLong, DebitUnknown, CreditUnknown, SameAccount, LedgersDiffer, TopPassed, ReservationUnknown}
+use Rattle.meaning.specs.Rules.{number_refused, amount_refused, room_refused, fate_refused, part_refused}
+use Rattle.meaning.specs.Sound.{fits}
 use Rattle.meaning.specs.Basics.{or_else, first_of}
 use Rattle.meaning.specs.Questions.{Standing}
 use Rattle.balances.specs.Contents.{Books, row_asked, held_asked}
@@ -17,10 +16,7 @@ refusal_in (Ok x) = None
 refusal_in (Err r) = Some r
 
 abbrev pub number_judged : ℕ → Books → Option Refusal
-number_judged n k = first_of ((n == 0 || nat_le n k.highest, OrderNumber) ∷ [])
-
-abbrev pub amount_judged : ℕ → Option Refusal
-amount_judged z = first_of ((z == 0 || nat_lt top z, Amount) ∷ [])
+number_judged n k = number_refused k.highest n
 
 -- a sum of 64-bit numbers, at most the greatest one
 abbrev pub sum : ℕ → ℕ → ℕ
@@ -42,10 +38,10 @@ parties_judged z (Some D) (Some C) = pair_judged z D C
 
 -- a transfer or a reserve, before the policy is asked
 abbrev pub movement_judged : (number debit credit amount : ℕ) → Books → Option Refusal
-movement_judged n d c z k = or_else (number_judged n k) (or_else (amount_judged z) (parties_judged z (row_asked k d) (row_asked k c)))
+movement_judged n d c z k = or_else (number_judged n k) (or_else (amount_refused z) (parties_judged z (row_asked k d) (row_asked k c)))
 
 abbrev pub room_judged : Books → Option Refusal
-room_judged k = first_of ((nat_le 256 (length k.held), ReservationsFull) ∷ [])
+room_judged k = room_refused (length k.held)
 
 -- a chain takes 16 legs
 abbrev pub full_judged : Noted → Option Refusal
@@ -54,22 +50,13 @@ full_judged n = first_of ((nat_le 16 (length n.traces), ChainTooLong) ∷ [])
 abbrev pub reserve_judged : Noted → Books → Option Refusal
 reserve_judged n k = or_else (full_judged n) (room_judged k)
 
-abbrev pub fate_judged : Fate → Option Refusal
-fate_judged Live = None
-fate_judged Posted = Some AlreadyPosted
-fate_judged Voided = Some AlreadyVoided
-fate_judged Lapsed = Some AlreadyLapsed
-
 abbrev pub open_judged : Option Reservation → Option Refusal
 open_judged None = Some ReservationUnknown
-open_judged (Some R) = fate_judged R.fate
-
-abbrev pub part_of_judged : (amount reserved : ℕ) → Option Refusal
-part_of_judged z a = first_of ((z == 0 || nat_lt a z, PostAmount) ∷ [])
+open_judged (Some R) = fate_refused R.fate
 
 abbrev pub part_judged : ℕ → Option Reservation → Option Refusal
 part_judged z None = None
-part_judged z (Some R) = part_of_judged z R.amount
+part_judged z (Some R) = part_refused z R.amount
 
 abbrev pub void_judged : (number reservation : ℕ) → Books → Option Refusal
 void_judged n r k = or_else (number_judged n k) (open_judged (held_asked k r))

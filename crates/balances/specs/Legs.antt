@@ -1,5 +1,5 @@
 -- What legs make of the tables.
-use Rattle.std.specs.Prelude.{ℕ, cond, List, [], ◌∷◌, ◌++◌, length, get_or, ◌==◌, nat_lt, slice_index_or, slice_set}
+use Rattle.std.specs.Prelude.{ℕ, cond, List, [], ◌∷◌, ◌++◌, length, ◌==◌, nat_lt, slice_index_or, slice_set}
 use Rattle.meaning.specs.declared.reservation.Reservation.{Reservation}
 use Rattle.meaning.specs.declared.fate.Event.{Event}
 use Rattle.meaning.specs.declared.fate.Event.TheVariants.{Lapse}
@@ -33,7 +33,7 @@ abbrev pub released : (debit credit amount part : ℕ) → Books → Books
 released d c a b k = with_row (credit_released a b) (row_place k c) (with_row (debit_released a b) (row_place k d) k)
 
 abbrev pub numbered : ℕ → Books → Books
-numbered n k = record { rows = k.rows; held = k.held; highest = n; queue = k.queue; lines = k.lines }
+numbered n k = record k { highest = n }
 
 -- one reservation more, in its place in the queue if it has a deadline, unless there are 256 already
 abbrev pub due_of : Reservation → Due
@@ -43,20 +43,20 @@ abbrev pub waits : Reservation → List Due → List Due
 waits R q = cond (R.deadline == 0) q (joined (due_of R) q)
 
 abbrev pub with_held : Reservation → Books → Books
-with_held R k = cond (nat_lt (length k.held) 256) (record { rows = k.rows; held = k.held ++ (R ∷ []); highest = k.highest; queue = waits R k.queue; lines = k.lines }) k
+with_held R k = cond (nat_lt (length k.held) 256) (record k { held = k.held ++ (R ∷ []); queue = waits R k.queue }) k
 
 -- the reservation at a place meets an event
 abbrev pub with_fate : Event → ℕ → Books → Books
-with_fate e i k = record { rows = k.rows; held = slice_set k.held i (met e (slice_index_or k.held i no_reservation)); highest = k.highest; queue = k.queue; lines = k.lines }
+with_fate e i k = record k { held = slice_set k.held i (met e (slice_index_or k.held i no_reservation)) }
 
 -- a key leaves the queue
 abbrev pub without_due : Due → Books → Books
-without_due d k = record { rows = k.rows; held = k.held; highest = k.highest; queue = without due_before d k.queue; lines = k.lines }
+without_due d k = record k { queue = without due_before d k.queue }
 
 -- the reservation at a place ends: its amount leaves what is pending, a part of it is posted
 abbrev pub ended : Event → (place part : ℕ) → Books → Books
 ended e i z k =
-    with_fate e i (released (get_or k.held i no_reservation).debit (get_or k.held i no_reservation).credit (get_or k.held i no_reservation).amount z k)
+    with_fate e i (released (slice_index_or k.held i no_reservation).debit (slice_index_or k.held i no_reservation).credit (slice_index_or k.held i no_reservation).amount z k)
 
 -- The legs.
 

@@ -8,12 +8,10 @@ use Rattle.balances.specs.Noted.{Trace, Noted}
 
 -- one leg put back: what it wrote over, the credit row first
 abbrev pub undone : Trace → Books → Books
-undone t k = record {
+undone t k = record k {
   rows = slice_set (slice_set k.rows t.credit t.credit_was) t.debit t.debit_was;
   held = take t.reserved_was (slice_set k.held t.slot t.slot_was);
   highest = t.highest_was;
-  queue = k.queue;
-  lines = k.lines;
 }
 
 -- the legs put back, the latest first
@@ -29,7 +27,7 @@ abbrev pub legs_of : Balances → ℕ
 legs_of b = length (noted_of b).traces
 
 abbrev pub with_queue : List Due → Books → Books
-with_queue q k = record { rows = k.rows; held = k.held; highest = k.highest; queue = q; lines = k.lines }
+with_queue q k = record k { queue = q }
 
 -- the tables as at the opening of the chain
 abbrev pub restored : Noted → Books → Books

@@ -14,7 +14,8 @@ use Rattle.book.specs.declared.book.Book.{Book}
 use Rattle.book.specs.States.{state_of}
 use Rattle.promise.specs.declared.call.Call.{Call}
 use Rattle.promise.specs.declared.desk.Desk.{Desk}
-use Rattle.promise.specs.Histories.{with_desk, beginning, arrived, Alike, Meets, Twin, History}
+use Rattle.promise.specs.Made.{with_desk}
+use Rattle.promise.specs.Histories.{beginning, arrived, Alike, Meets, Twin, History}
 use Rattle.promise.specs.Worlds.{World, final, adds_all}
 use Rattle.promise.proofs.Living.{same-final, same-adds}
 use Rattle.clients.specs.Handed.{HandedOver}

@@ -12,7 +12,8 @@ use Rattle.book.specs.declared.book.Book.{Book}
 use Rattle.book.specs.States.{state_of}
 use Rattle.promise.specs.declared.call.Call.{Call}
 use Rattle.promise.specs.declared.desk.Desk.{Desk}
-use Rattle.promise.specs.Histories.{with_desk, Alike, Twin}
+use Rattle.promise.specs.Made.{with_desk}
+use Rattle.promise.specs.Histories.{Alike, Twin}
 use Rattle.promise.specs.Kept.{Keeps}
 use Rattle.promise.specs.Worlds.{final, adds_all}
 use Rattle.clients.specs.Seasons.{season, before_all, then_was}

@@ -6,7 +6,8 @@ use Rattle.std.proofs.lemmas.Bool.{eqb-true}
 use Rattle.meaning.specs.declared.fate.Fate.{Fate}
 use Rattle.meaning.specs.declared.fate.Fate.TheVariants.{Live, Lapsed}
 use Rattle.meaning.specs.Basics.{those}
-use Rattle.meaning.specs.Given.{Journal, Reserved, accounts, reservations, the_reservation, decided, due, fate, is_live}
+use Rattle.meaning.specs.Fates.{decided}
+use Rattle.meaning.specs.Given.{Journal, Reserved, accounts, reservations, the_reservation, due, fate, is_live}
 use Rattle.meaning.specs.Rules.{Policy}
 use Rattle.ordered.specs.declared.due.Due.{Due}
 use Rattle.ordered.specs.Orders.{due_before}

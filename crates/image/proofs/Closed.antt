@@ -4,7 +4,8 @@ use Rattle.meaning.specs.declared.content.Content.TheVariants.{Post, Void}
 use Rattle.meaning.specs.declared.fate.Event.TheVariants.{Post as posting, Void as voiding}
 use Rattle.meaning.specs.declared.fate.Fate.TheVariants.{Live, Posted, Voided}
 use Rattle.meaning.specs.Basics.{at}
-use Rattle.meaning.specs.Given.{Journal, Reserved, reservations, the_reservation, decided, fate, highest, pick, posted}
+use Rattle.meaning.specs.Fates.{decided}
+use Rattle.meaning.specs.Given.{Journal, Reserved, reservations, the_reservation, fate, highest, pick, posted}
 use Rattle.meaning.specs.Rules.{Policy, number_refused, refused}
 use Rattle.balances.specs.Books.{held_place}
 use Rattle.balances.specs.Legs.{closed}
@@ -25,7 +26,7 @@ module _ (policy : Policy) (J : Journal) (h : Reads policy J) (T n : ℕ) (l : B
       let st = step policy J T n l T (Post r z) N e in
       let R = st.0 in
       let kr : R.number ≡ r = find_key key r (reservations J) R st.1.found in
-      let lt : highest J < n = number_above policy J T n (both_none (number_refused policy J T n) _ e).0 in
+      let lt : highest J < n = number_above policy J T n (both_none (number_refused (highest J) n) _ e).0 in
       let found : the_reservation J R.number ≡ Some R = ap (the_reservation J) kr ∙ st.1.found in
       let after : (Q : Reserved) → fate (entry n l T (Post r z) ∷ J) T Q ≡ decided (cond (eqb R.number Q.number) Posted Live) (fate J T Q) = λ Q. (fates_go_on J T Q).by_entry (entry n l T (Post r z)) ∙ ap (λ m. decided (cond (eqb m Q.number) Posted Live) (fate J T Q)) (sym kr) in
       ap (λ m. closed posting n (held_place (image_of J T) m) z (image_of J T)) (sym kr)
@@ -37,7 +38,7 @@ module _ (policy : Policy) (J : Journal) (h : Reads policy J) (T n : ℕ) (l : B
       let st = step policy J T n l T (Void r) N e in
       let R = st.0 in
       let kr : R.number ≡ r = find_key key r (reservations J) R st.1.found in
-      let lt : highest J < n = number_above policy J T n (both_none (number_refused policy J T n) _ e).0 in
+      let lt : highest J < n = number_above policy J T n (both_none (number_refused (highest J) n) _ e).0 in
       let found : the_reservation J R.number ≡ Some R = ap (the_reservation J) kr ∙ st.1.found in
       let after : (Q : Reserved) → fate (entry n l T (Void r) ∷ J) T Q ≡ decided (cond (eqb R.number Q.number) Voided Live) (fate J T Q) = λ Q. (fates_go_on J T Q).by_entry (entry n l T (Void r)) ∙ ap (λ m. decided (cond (eqb m Q.number) Voided Live) (fate J T Q)) (sym kr) in
       ap (λ m. closed voiding n (held_place (image_of J T) m) 0 (image_of J T)) (sym kr)

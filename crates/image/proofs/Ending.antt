@@ -9,8 +9,8 @@ use Rattle.meaning.specs.declared.fate.Event.{Event}
 use Rattle.meaning.specs.declared.fate.Fate.{Fate}
 use Rattle.meaning.specs.declared.fate.Fate.TheVariants.{Live, Posted, Voided, Lapsed}
 use Rattle.meaning.specs.Basics.{at, those, in_order}
-use Rattle.meaning.specs.Fates.{next, ends}
-use Rattle.meaning.specs.Given.{Journal, Reserved, accounts, reservations, the_reservation, decided, is_live, highest, Side, debits, credits, pick, through, posted}
+use Rattle.meaning.specs.Fates.{next, ends, decided}
+use Rattle.meaning.specs.Given.{Journal, Reserved, accounts, reservations, the_reservation, is_live, highest, Side, debits, credits, pick, through, posted}
 use Rattle.meaning.specs.Questions.{Standing}
 use Rattle.meaning.specs.Rows.{debit_released, credit_released, met}
 use Rattle.ordered.specs.Orders.{due_before, line_before}

@@ -7,7 +7,8 @@ use Rattle.meaning.specs.declared.opening.Opening.{Opening}
 use Rattle.meaning.specs.declared.fate.Fate.TheVariants.{Live, Lapsed}
 use Rattle.meaning.specs.Basics.{at, those, put, in_order}
 use Rattle.meaning.specs.Sound.{top}
-use Rattle.meaning.specs.Given.{Journal, Reserved, accounts, reservations, the_account, highest, ended, decided, fate, due, is_live, debits, credits, pending, posted}
+use Rattle.meaning.specs.Fates.{decided}
+use Rattle.meaning.specs.Given.{Journal, Reserved, accounts, reservations, the_account, highest, ended, fate, due, is_live, debits, credits, pending, posted}
 use Rattle.meaning.specs.Rules.{Policy, number_refused, amount_refused, parties_refused, refused}
 use Rattle.meaning.specs.Questions.{standing, with_fate}
 use Rattle.meaning.specs.Rows.{debited, credited}
@@ -51,12 +52,12 @@ module _ (policy : Policy) (J : Journal) (h : Reads policy J) (T n : ℕ) (l : B
   R = record { number = n; debit = d; credit = c; amount = z; until = u }
 
   above : highest J < n
-  above = number_above policy J T n (both_none (number_refused policy J T n) _ e).0
+  above = number_above policy J T n (both_none (number_refused (highest J) n) _ e).0
 
   room : length (reservations J) < 256
   room =
-      let rest = (both_none (number_refused policy J T n) _ e).1 in
-      let amount = (both_none (amount_refused policy J T z) _ rest).1 in
+      let rest = (both_none (number_refused (highest J) n) _ e).1 in
+      let amount = (both_none (amount_refused z) _ rest).1 in
       let r = (both_none (parties_refused policy J T z 0 (the_account J d) (the_account J c)) _ amount).1 in
       grind arith
 
@@ -68,8 +69,8 @@ module _ (policy : Policy) (J : Journal) (h : Reads policy J) (T n : ℕ) (l : B
 
   row_after : (A : Opening) → changed_if skey c no_row (credited z 0) (changed_if skey d no_row (debited z 0) (standing J T A)) ≡ standing J' T A
   row_after A =
-      let rest = (both_none (number_refused policy J T n) _ e).1 in
-      let amount = (both_none (amount_refused policy J T z) _ rest).1 in
+      let rest = (both_none (number_refused (highest J) n) _ e).1 in
+      let amount = (both_none (amount_refused z) _ rest).1 in
       let m = parties_known policy J T z 0 (the_account J d) (the_account J c) (both_none (parties_refused policy J T z 0 (the_account J d) (the_account J c)) _ amount).0 in
       let kd : m.0.number ≡ d = find_key akey d (accounts J) m.0 m.2 in
       let kc : m.1.number ≡ c = find_key akey c (accounts J) m.1 m.3 in

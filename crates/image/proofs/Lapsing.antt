@@ -8,7 +8,8 @@ use Rattle.meaning.specs.declared.fate.Fate.{Fate}
 use Rattle.meaning.specs.declared.fate.Fate.TheVariants.{Live, Lapsed}
 use Rattle.meaning.specs.declared.fate.Event.TheVariants.{Lapse}
 use Rattle.meaning.specs.Basics.{at, sum_of, in_order}
-use Rattle.meaning.specs.Given.{Journal, Reserved, accounts, reservations, the_reservation, decided, is_live, highest, Side, debits, credits, pick, posted}
+use Rattle.meaning.specs.Fates.{decided}
+use Rattle.meaning.specs.Given.{Journal, Reserved, accounts, reservations, the_reservation, is_live, highest, Side, debits, credits, pick, posted}
 use Rattle.ordered.specs.Orders.{due_before, line_before}
 use Rattle.ordered.specs.Keyed.{due_of, line_of}
 use Rattle.ordered.specs.Rows.{without}

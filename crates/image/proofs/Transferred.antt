@@ -33,8 +33,8 @@ module _ (policy : Policy) (J : Journal) (h : Reads policy J) (T n : ℕ) (l : B
 
   row_after : (A : Opening) → changed_if skey c no_row (credited 0 z) (changed_if skey d no_row (debited 0 z) (standing J T A)) ≡ standing J' T A
   row_after A =
-      let rest = (both_none (number_refused policy J T n) _ e).1 in
-      let m = parties_known policy J T 0 z (the_account J d) (the_account J c) (both_none (amount_refused policy J T z) _ rest).1 in
+      let rest = (both_none (number_refused (highest J) n) _ e).1 in
+      let m = parties_known policy J T 0 z (the_account J d) (the_account J c) (both_none (amount_refused z) _ rest).1 in
       let kd : m.0.number ≡ d = find_key akey d (accounts J) m.0 m.2 in
       let kc : m.1.number ≡ c = find_key akey c (accounts J) m.1 m.3 in
       let st = step policy J T n l T (Transfer d c z) (numbered policy J h) e in
@@ -53,7 +53,7 @@ module _ (policy : Policy) (J : Journal) (h : Reads policy J) (T n : ℕ) (l : B
   pub by_transfer : transferred n d c z (image_of J T) ≡ image_of J' T
   by_transfer =
       let k = image_of J T in
-      let lt : highest J < n = number_above policy J T n (both_none (number_refused policy J T n) _ e).0 in
+      let lt : highest J < n = number_above policy J T n (both_none (number_refused (highest J) n) _ e).0 in
       let top-number : n ≡ max (highest J) n = omega arith in
       let rows = two_changes (standing J T) (λ A. refl) (accounts J) (known policy J h).apart d c (debited 0 z) (credited 0 z) (λ s. refl) ∙ same-oldest _ (standing J' T) (accounts J) (all_of _ row_after (accounts J)) in
       λ i. books (rows i) k.held (top-number i) k.queue k.lines

@@ -4,7 +4,7 @@ use Rattle.meaning.specs.declared.content.Content.{Content}
 use Rattle.meaning.specs.declared.content.Content.TheVariants.{Account, Transfer, Reserve, Post, Void}
 use Rattle.meaning.specs.declared.opening.Opening.{Opening}
 use Rattle.meaning.specs.Basics.{at, find}
-use Rattle.meaning.specs.Given.{Journal, Reserved, accounts, reservations, the_account, fate, is_live, due, Side, debits, credits, pending, Movement, movements, posted, latest}
+use Rattle.meaning.specs.Given.{Journal, Reserved, accounts, reservations, the_account, fate, is_live, due, Side, debits, credits, pending, Movement, movements, posted, latest, highest}
 use Rattle.meaning.specs.Rules.{Policy, number_refused, amount_refused, parties_refused, refused}
 use Rattle.laws.specs.Steps.{Reads, falling}
 use Rattle.meaning.specs.Policies.{Lawful}
@@ -96,13 +96,13 @@ module _ (policy : Policy) (law : Lawful policy) where
             holds_same Z (zp debits) (zq debits) (zp credits) (zq credits)
         go false q s = H a A s
     admitted_more (Transfer d c z) e a A is =
-        let h = (both_none (number_refused policy J t n) _ e).1 in
-        let m = parties_known policy J t 0 z (the_account J d) (the_account J c) (both_none (amount_refused policy J t z) _ h).1 in
+        let h = (both_none (number_refused (highest J) n) _ e).1 in
+        let m = parties_known policy J t 0 z (the_account J d) (the_account J c) (both_none (amount_refused z) _ h).1 in
         let st = step policy J t n l t (Transfer d c z) N e in
         holds_same (holds_move (accounts J) (pending J t) (posted J) 0 z d c m.0 m.1 m.4 m.2 m.3 a A is (H a A is)) (grind arith) (omega arith) (grind arith) (omega arith)
     admitted_more (Reserve d c z u) e a A is =
-        let h = (both_none (number_refused policy J t n) _ e).1 in
-        let r = (both_none (amount_refused policy J t z) _ h).1 in
+        let h = (both_none (number_refused (highest J) n) _ e).1 in
+        let r = (both_none (amount_refused z) _ h).1 in
         let m = parties_known policy J t z 0 (the_account J d) (the_account J c) (both_none (parties_refused policy J t z 0 (the_account J d) (the_account J c)) _ r).0 in
         let st = step policy J t n l t (Reserve d c z u) N e in
         let sd = (st debits a).0 in

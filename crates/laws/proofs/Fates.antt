@@ -2,7 +2,8 @@
 use Rattle.std.proofs.Common.{◌≡◌, ℕ, Bool, true, false, cond, ◌&&◌, refl, arith}
 use Rattle.meaning.specs.declared.fate.Fate.{Fate}
 use Rattle.meaning.specs.declared.fate.Fate.TheVariants.{Live, Posted, Voided, Lapsed}
-use Rattle.meaning.specs.Given.{Journal, Reserved, decided, ended_by, ended, due, is_live}
+use Rattle.meaning.specs.Fates.{decided}
+use Rattle.meaning.specs.Given.{Journal, Reserved, ended_by, ended, due, is_live}
 use Rattle.laws.specs.Steps.{FatesGoOn}
 
 decided_assoc : (f g h : Fate) → decided (decided f g) h ≡ decided f (decided g h)

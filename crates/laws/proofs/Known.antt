@@ -6,7 +6,7 @@ use Rattle.meaning.specs.declared.content.Content.{Content}
 use Rattle.meaning.specs.declared.content.Content.TheVariants.{Account, Transfer, Reserve, Post, Void}
 use Rattle.meaning.specs.declared.opening.Opening.{Opening}
 use Rattle.meaning.specs.Basics.{at, find}
-use Rattle.meaning.specs.Given.{Journal, accounts, reservations, the_account, the_reservation, Side, debits, credits, pick, through, post_in, movements}
+use Rattle.meaning.specs.Given.{Journal, accounts, reservations, the_account, the_reservation, Side, debits, credits, pick, through, post_in, movements, highest}
 use Rattle.meaning.specs.Rules.{Policy, number_refused, amount_refused, parties_refused, refused}
 use Rattle.laws.specs.Steps.{Reads}
 use Rattle.laws.proofs.Finds.{Distinct, find_all, find_none}
@@ -54,14 +54,14 @@ module _ (policy : Policy) (J : Journal) (n : ℕ) (l : Bool) (t : ℕ) where
         apart = (find_none akey n (accounts J) f, K.apart);
       }
   known_more (Transfer d c z) K e =
-      let h = (both_none (number_refused policy J t n) _ e).1 in
-      record { of_reservations = K.of_reservations; of_movements = (pair d c 0 z (both_none (amount_refused policy J t z) _ h).1, K.of_movements); apart = K.apart }
+      let h = (both_none (number_refused (highest J) n) _ e).1 in
+      record { of_reservations = K.of_reservations; of_movements = (pair d c 0 z (both_none (amount_refused z) _ h).1, K.of_movements); apart = K.apart }
   known_more (Reserve d c z u) K e =
-      let h = (both_none (number_refused policy J t n) _ e).1 in
-      let m = (both_none (amount_refused policy J t z) _ h).1 in
+      let h = (both_none (number_refused (highest J) n) _ e).1 in
+      let m = (both_none (amount_refused z) _ h).1 in
       record { of_reservations = (pair d c z 0 (both_none (parties_refused policy J t z 0 (the_account J d) (the_account J c)) _ m).0, K.of_reservations); of_movements = K.of_movements; apart = K.apart }
   known_more (Post q z) K e =
-      let p = post_open policy J t z (the_reservation J q) (both_none (number_refused policy J t n) _ e).1 in
+      let p = post_open policy J t z (the_reservation J q) (both_none (number_refused (highest J) n) _ e).1 in
       let w = find_all key q (λ R. Pair (accounts J) R.debit R.credit) (reservations J) p.0 K.of_reservations p.1 in
       record { of_reservations = K.of_reservations; of_movements = subst (λ o. All (λ M. Pair (accounts J) M.debit M.credit) (post_in o z (movements J))) (sym p.1) (w, K.of_movements); apart = K.apart }
   known_more (Void q) K e = record { of_reservations = K.of_reservations; of_movements = K.of_movements; apart = K.apart }

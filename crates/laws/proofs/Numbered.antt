@@ -31,19 +31,19 @@ module _ (policy : Policy) (J : Journal) (n : ℕ) (l : Bool) (t : ℕ) where
   numbered_more (Account x y z w) S e = record { below = S.below; distinct = S.distinct; unclosed = S.unclosed }
   numbered_more (Transfer d c z) S e = record { below = higher (max (highest J) n) (omega arith) _ S.below; distinct = S.distinct; unclosed = λ r h. S.unclosed r (omega arith) }
   numbered_more (Reserve d c z u) S e =
-      let lt : highest J < n = number_above policy J t n (both_none (number_refused policy J t n) _ e).0 in
+      let lt : highest J < n = number_above policy J t n (both_none (number_refused (highest J) n) _ e).0 in
       record {
         below = (omega arith, higher (max (highest J) n) (omega arith) _ S.below);
         distinct = (All-weaker (λ R. R.number ≤ highest J) (λ R. R.number ≡ n → ⊥) (λ R w v. omega arith) _ S.below, S.distinct);
         unclosed = λ r h. S.unclosed r (omega arith);
       }
   numbered_more (Post q z) S e =
-      let p = post_open policy J t z (the_reservation J q) (both_none (number_refused policy J t n) _ e).1 in
+      let p = post_open policy J t z (the_reservation J q) (both_none (number_refused (highest J) n) _ e).1 in
       let b : p.0.number ≤ highest J = find_all key q (λ R. R.number ≤ highest J) _ p.0 S.below p.1 in
       let w : p.0.number ≡ q = find_key key q _ p.0 p.1 in
       record { below = higher (max (highest J) n) (omega arith) _ S.below; distinct = S.distinct; unclosed = λ r h. let u : ended J r ≡ Live = S.unclosed r (omega arith) in grind arith }
   numbered_more (Void q) S e =
-      let p = void_open policy J t (the_reservation J q) (both_none (number_refused policy J t n) _ e).1 in
+      let p = void_open policy J t (the_reservation J q) (both_none (number_refused (highest J) n) _ e).1 in
       let b : p.0.number ≤ highest J = find_all key q (λ R. R.number ≤ highest J) _ p.0 S.below p.1 in
       let w : p.0.number ≡ q = find_key key q _ p.0 p.1 in
       record { below = higher (max (highest J) n) (omega arith) _ S.below; distinct = S.distinct; unclosed = λ r h. let u : ended J r ≡ Live = S.unclosed r (omega arith) in grind arith }

@@ -5,7 +5,8 @@ use Rattle.meaning.specs.declared.content.Content.{Content}
 use Rattle.meaning.specs.declared.content.Content.TheVariants.{Account, Transfer, Reserve, Post, Void}
 use Rattle.meaning.specs.declared.fate.Fate.TheVariants.{Live}
 use Rattle.meaning.specs.Basics.{at, sum_of}
-use Rattle.meaning.specs.Given.{Journal, Reserved, reservations, the_reservation, fate, is_live, decided, ended_by, ended}
+use Rattle.meaning.specs.Fates.{decided}
+use Rattle.meaning.specs.Given.{Journal, Reserved, reservations, the_reservation, fate, is_live, ended_by, ended, highest}
 use Rattle.meaning.specs.Rules.{Policy, number_refused, refused}
 use Rattle.laws.specs.Steps.{Reads}
 use Rattle.laws.specs.Kept.{names, closers, reservers, Open, Once}
@@ -55,11 +56,11 @@ module _ (policy : Policy) (J : Journal) (n : ℕ) (l : Bool) (t : ℕ) (before 
   once_more (Transfer d c z) S e = record { one_reserve = reservers_one _ S; one_close = λ r. omega (arith, before.one_close r); well = (before.well, tt) }
   once_more (Reserve d c z u) S e = record { one_reserve = reservers_one _ S; one_close = λ r. omega (arith, before.one_close r); well = (before.well, tt) }
   once_more (Post q z) S e =
-      let p = post_open policy J t z (the_reservation J q) (both_none (number_refused policy J t n) _ e).1 in
+      let p = post_open policy J t z (the_reservation J q) (both_none (number_refused (highest J) n) _ e).1 in
       let o = stays_open J t q p.0 p.1 p.2 in
       record { one_reserve = reservers_one _ S; one_close = closed_once q o.unclosed; well = (before.well, (p.0, o, p.3)) }
   once_more (Void q) S e =
-      let p = void_open policy J t (the_reservation J q) (both_none (number_refused policy J t n) _ e).1 in
+      let p = void_open policy J t (the_reservation J q) (both_none (number_refused (highest J) n) _ e).1 in
       let o = stays_open J t q p.0 p.1 p.2 in
       record { one_reserve = reservers_one _ S; one_close = closed_once q o.unclosed; well = (before.well, (p.0, o)) }
 

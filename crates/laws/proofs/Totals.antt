@@ -31,14 +31,14 @@ module _ (policy : Policy) (J : Journal) (T n : ℕ) (l : Bool) (t : ℕ) where
   step (Account x y z w) S e = λ s a. (refl, refl)
   step (Transfer d c z) S e = λ s a. (refl, omega arith)
   step (Reserve d c z u) S e =
-      let lt : highest J < n = number_above policy J T n (both_none (number_refused policy J T n) _ e).0 in
+      let lt : highest J < n = number_above policy J T n (both_none (number_refused (highest J) n) _ e).0 in
       let o : ended J n ≡ Live = S.unclosed n lt in
       λ s a. (grind arith, refl)
   step (Post r z) S e =
-      let p = post_open policy J T z (the_reservation J r) (both_none (number_refused policy J T n) _ e).1 in
+      let p = post_open policy J T z (the_reservation J r) (both_none (number_refused (highest J) n) _ e).1 in
       (p.0, record { found = p.1; live = p.2 }, p.3, λ s a. (pending_post J T s a n l t r p.0 S.distinct p.1 p.2 z, ap (λ o. through (λ (M : Movement). M.debit) (λ M. M.credit) (λ M. M.amount) (post_in o z (movements J)) s a) p.1 ∙ omega arith))
   step (Void r) S e =
-      let p = void_open policy J T (the_reservation J r) (both_none (number_refused policy J T n) _ e).1 in
+      let p = void_open policy J T (the_reservation J r) (both_none (number_refused (highest J) n) _ e).1 in
       (p.0, record { found = p.1; live = p.2 }, λ s a. (pending_void J T s a n l t r p.0 S.distinct p.1 p.2, refl))
 
 pub lapse : (J : Journal) (T T' : ℕ) → T ≤ T' → (s : Side) (a : ℕ) → pending J T s a ≡ pending J T' s a + falling J T T' s a

@@ -6,7 +6,8 @@ use Rattle.meaning.specs.declared.record.Record.{Record}
 use Rattle.meaning.specs.declared.order.Order.{Order}
 use Rattle.meaning.specs.Basics.{at}
 use Rattle.meaning.specs.declared.fate.Fate.TheVariants.{Lapsed}
-use Rattle.meaning.specs.Given.{Journal, Reserved, reservations, the_reservation, ended_by, decided, due, fate, is_live, latest, Side, pick, through, pending, posted}
+use Rattle.meaning.specs.Fates.{decided}
+use Rattle.meaning.specs.Given.{Journal, Reserved, reservations, the_reservation, ended_by, due, fate, is_live, latest, Side, pick, through, pending, posted}
 use Rattle.meaning.specs.Rules.{Policy, refused}
 use Rattle.meaning.specs.Reading.{read_so_far, reading}
 

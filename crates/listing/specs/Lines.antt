@@ -1,17 +1,13 @@
 -- The lines of a listing, over their keys.
-use Rattle.std.specs.Prelude.{ℕ, Bool, true, cond, not, List, [], ◌∷◌, ◌++◌, Some, None, decimal, Option, ◌==◌}
+use Rattle.std.specs.Prelude.{ℕ, Bool, true, cond, not, List, [], ◌∷◌, ◌++◌, Some, None, Option, ◌==◌}
 use Rattle.meaning.specs.Labels.{bytes8}
-use Rattle.meaning.specs.Listing.{fields}
+use Rattle.meaning.specs.Listing.{line_bytes}
 use Rattle.meaning.specs.Questions.{Standing}
 use Rattle.ordered.specs.declared.line.Line.{Line}
 use Rattle.balances.specs.Books.{Books, row_asked}
 use Rattle.listing.specs.declared.sums.Sums.{Sums}
 use Rattle.listing.specs.Letters.{letters_in}
 use Rattle.listing.specs.Sums.{sums_of}
-
--- a ledger, a name, numbers and the end of the line
-abbrev pub line_bytes : ℕ → List ℕ → List ℕ → List ℕ
-line_bytes L name ns = decimal L ++ (32 ∷ (name ++ (fields ns ++ (10 ∷ []))))
 
 -- as `7 MILL 2 0 250 0 900`
 unfoldable pub account_bytes : Standing → List ℕ

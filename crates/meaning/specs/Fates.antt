@@ -10,8 +10,12 @@ ends Post = Posted
 ends Void = Voided
 ends Lapse = Lapsed
 
+-- a fate that one event or another decides: what is resolved stays
+abbrev pub decided : Fate → Fate → Fate
+decided Live f = f
+decided Posted f = Posted
+decided Voided f = Voided
+decided Lapsed f = Lapsed
+
 abbrev pub next : Fate → Event → Fate
-next Live e = ends e
-next Posted e = Posted
-next Voided e = Voided
-next Lapsed e = Lapsed
+next f e = decided f (ends e)

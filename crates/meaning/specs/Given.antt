@@ -12,6 +12,7 @@ use Rattle.meaning.specs.declared.record.Record.{Record}
 use Rattle.meaning.specs.declared.opening.Opening.{Opening}
 use Rattle.meaning.specs.declared.fate.Fate.{Fate}
 use Rattle.meaning.specs.declared.fate.Fate.TheVariants.{Live, Posted, Voided, Lapsed}
+use Rattle.meaning.specs.Fates.{decided}
 use Rattle.meaning.specs.Basics.{at, sum_of, find}
 
 abbrev pub Journal : Type 0
@@ -55,13 +56,6 @@ abbrev pub the_reservation : Journal → ℕ → Option Reserved
 the_reservation J r = find (λ (R : Reserved). R.number) r (reservations J)
 
 -- The fate of a reservation: posted or voided if an entry of J names it, else lapsed if its deadline has come.
-
--- a fate that one entry or another decides
-abbrev pub decided : Fate → Fate → Fate
-decided Live f = f
-decided Posted f = Posted
-decided Voided f = Voided
-decided Lapsed f = Lapsed
 
 abbrev pub ended_by : ℕ → Content → Fate
 ended_by r (Account l k m b) = Live

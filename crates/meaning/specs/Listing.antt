@@ -21,14 +21,19 @@ fields (n ∷ ns) = 32 ∷ (decimal n ++ fields ns)
 abbrev pub spelled : ℕ → List ℕ
 spelled label = those (λ b. not (b == 32)) (bytes8 label)
 
+-- a ledger, a name, numbers and the end of the line
+abbrev pub line_bytes : ℕ → (name numbers : List ℕ) → List ℕ
+line_bytes L name ns = decimal L ++ (32 ∷ (name ++ (fields ns ++ (10 ∷ []))))
+
+-- as `7 MILL 2 0 250 0 900`
 abbrev pub account_line : Journal → ℕ → Opening → List ℕ
 account_line J T A =
-    decimal A.ledger ++ (32 ∷ (spelled A.label ++ (fields (A.number ∷ pending J T debits A.number ∷ posted J debits A.number ∷ pending J T credits A.number ∷ posted J credits A.number ∷ []) ++ (10 ∷ []))))
+    line_bytes A.ledger (spelled A.label) (A.number ∷ pending J T debits A.number ∷ posted J debits A.number ∷ pending J T credits A.number ∷ posted J credits A.number ∷ [])
 
--- 61 is the equals sign
+-- as `7 = 3 0 1150 0 1150`; 61 is the equals sign
 abbrev pub sum_line : Journal → ℕ → ℕ → List ℕ
 sum_line J T L =
-    decimal L ++ (32 ∷ (61 ∷ (fields (of_ledger J L (λ a. 1) ∷ of_ledger J L (pending J T debits) ∷ of_ledger J L (posted J debits) ∷ of_ledger J L (pending J T credits) ∷ of_ledger J L (posted J credits) ∷ []) ++ (10 ∷ []))))
+    line_bytes L (61 ∷ []) (of_ledger J L (λ a. 1) ∷ of_ledger J L (pending J T debits) ∷ of_ledger J L (posted J debits) ∷ of_ledger J L (pending J T credits) ∷ of_ledger J L (posted J credits) ∷ [])
 
 -- no account of the ledger comes next
 abbrev pub ends : ℕ → List Opening → Bool

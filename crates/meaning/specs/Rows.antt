@@ -23,18 +23,18 @@ standing_of a = record {
 
 -- p more pending and q more posted, where the side takes both
 abbrev pub debited : (p q : ℕ) → Standing → Standing
-debited p q s = record { account = s.account; dp = s.dp + at (fits s.dp s.dq (p + q)) p; dq = s.dq + at (fits s.dp s.dq (p + q)) q; cp = s.cp; cq = s.cq }
+debited p q s = record s { dp = s.dp + at (fits s.dp s.dq (p + q)) p; dq = s.dq + at (fits s.dp s.dq (p + q)) q }
 
 abbrev pub credited : (p q : ℕ) → Standing → Standing
-credited p q s = record { account = s.account; dp = s.dp; dq = s.dq; cp = s.cp + at (fits s.cp s.cq (p + q)) p; cq = s.cq + at (fits s.cp s.cq (p + q)) q }
+credited p q s = record s { cp = s.cp + at (fits s.cp s.cq (p + q)) p; cq = s.cq + at (fits s.cp s.cq (p + q)) q }
 
 -- an amount leaves what is pending and a part of it is posted; never more than is there
 abbrev pub debit_released : (amount part : ℕ) → Standing → Standing
-debit_released a b s = record { account = s.account; dp = s.dp - a; dq = s.dq + min b (min a s.dp); cp = s.cp; cq = s.cq }
+debit_released a b s = record s { dp = s.dp - a; dq = s.dq + min b (min a s.dp) }
 
 abbrev pub credit_released : (amount part : ℕ) → Standing → Standing
-credit_released a b s = record { account = s.account; dp = s.dp; dq = s.dq; cp = s.cp - a; cq = s.cq + min b (min a s.cp) }
+credit_released a b s = record s { cp = s.cp - a; cq = s.cq + min b (min a s.cp) }
 
 -- a reservation after an event
 abbrev pub met : Event → Reservation → Reservation
-met e R = record { number = R.number; debit = R.debit; credit = R.credit; amount = R.amount; deadline = R.deadline; fate = next R.fate e }
+met e R = record R { fate = next R.fate e }

@@ -40,10 +40,30 @@ opening_checks policy J full A =
 abbrev pub opening_refused : Policy → Journal → (full : Bool) → Opening → Option Refusal
 opening_refused policy J full A = first_of (opening_checks policy J full A)
 
-module _ (policy : Policy) (J : Journal) (T : ℕ) where
-  abbrev pub number_refused : ℕ → Option Refusal
-  number_refused n = first_of ((n == 0 || nat_le n (highest J), OrderNumber) ∷ [])
+-- Rules of a leg that ask for no more than the numbers named here.
 
+-- h is the highest number taken
+abbrev pub number_refused : (h n : ℕ) → Option Refusal
+number_refused h n = first_of ((n == 0 || nat_le n h, OrderNumber) ∷ [])
+
+abbrev pub amount_refused : ℕ → Option Refusal
+amount_refused z = first_of ((z == 0 || nat_lt top z, Amount) ∷ [])
+
+-- of so many reservations
+abbrev pub room_refused : ℕ → Option Refusal
+room_refused n = first_of ((nat_le 256 n, ReservationsFull) ∷ [])
+
+abbrev pub fate_refused : Fate → Option Refusal
+fate_refused Live = None
+fate_refused Posted = Some AlreadyPosted
+fate_refused Voided = Some AlreadyVoided
+fate_refused Lapsed = Some AlreadyLapsed
+
+-- a post of z where a is reserved
+abbrev pub part_refused : (z a : ℕ) → Option Refusal
+part_refused z a = first_of ((z == 0 || nat_lt a z, PostAmount) ∷ [])
+
+module _ (policy : Policy) (J : Journal) (T : ℕ) where
   -- p more pending and q more posted, from the debit account D to the credit account C, which are known
   abbrev pub between_refused : (p q : ℕ) → Opening → Opening → Option Refusal
   between_refused p q D C = first_of
@@ -60,21 +80,9 @@ module _ (policy : Policy) (J : Journal) (T : ℕ) where
   parties_refused p q (Some D) None = Some CreditUnknown
   parties_refused p q (Some D) (Some C) = between_refused p q D C
 
-  abbrev pub amount_refused : ℕ → Option Refusal
-  amount_refused z = first_of ((z == 0 || nat_lt top z, Amount) ∷ [])
-
-  abbrev pub room_refused : Option Refusal
-  room_refused = first_of ((nat_le 256 (length (reservations J)), ReservationsFull) ∷ [])
-
-  abbrev pub fate_refused : Fate → Option Refusal
-  fate_refused Live = None
-  fate_refused Posted = Some AlreadyPosted
-  fate_refused Voided = Some AlreadyVoided
-  fate_refused Lapsed = Some AlreadyLapsed
-
   abbrev pub post_refused : ℕ → Option Reserved → Option Refusal
   post_refused z None = Some ReservationUnknown
-  post_refused z (Some R) = or_else (fate_refused (fate J T R)) (first_of ((z == 0 || nat_lt R.amount z, PostAmount) ∷ []))
+  post_refused z (Some R) = or_else (fate_refused (fate J T R)) (part_refused z R.amount)
 
   abbrev pub void_refused : Option Reserved → Option Refusal
   void_refused None = Some ReservationUnknown
@@ -83,11 +91,11 @@ module _ (policy : Policy) (J : Journal) (T : ℕ) where
   -- why an entry of this number and content is refused after J at moment T, if it is
   abbrev pub refused : ℕ → Content → Option Refusal
   refused n (Account l k m b) = opening_refused policy J false (record { number = n; ledger = l; class = k; limit = m; label = b })
-  refused n (Transfer d c z) = or_else (number_refused n) (or_else (amount_refused z) (parties_refused 0 z (the_account J d) (the_account J c)))
+  refused n (Transfer d c z) = or_else (number_refused (highest J) n) (or_else (amount_refused z) (parties_refused 0 z (the_account J d) (the_account J c)))
   refused n (Reserve d c z u) =
-      or_else (number_refused n) (or_else (amount_refused z) (or_else (parties_refused z 0 (the_account J d) (the_account J c)) room_refused))
-  refused n (Post r z) = or_else (number_refused n) (post_refused z (the_reservation J r))
-  refused n (Void r) = or_else (number_refused n) (void_refused (the_reservation J r))
+      or_else (number_refused (highest J) n) (or_else (amount_refused z) (or_else (parties_refused z 0 (the_account J d) (the_account J c)) (room_refused (length (reservations J)))))
+  refused n (Post r z) = or_else (number_refused (highest J) n) (post_refused z (the_reservation J r))
+  refused n (Void r) = or_else (number_refused (highest J) n) (void_refused (the_reservation J r))
 
 -- What a taken opening and a taken leg write.
 

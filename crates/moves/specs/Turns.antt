@@ -1,9 +1,5 @@
 -- A move on the tables: which numbers it writes.
-use Rattle.std.specs.Prelude.{ℕ, List, [], ◌∷◌, Some, None, Option, nat_lt}
-use Rattle.meaning.specs.declared.refusal.Refusal.{Refusal}
-use Rattle.meaning.specs.declared.refusal.Refusal.TheVariants.{MomentTooLate, MomentEarlier, LapsesTooShort}
-use Rattle.meaning.specs.Basics.{first_of}
-use Rattle.meaning.specs.Sound.{last}
+use Rattle.std.specs.Prelude.{ℕ, List, [], ◌∷◌, Some, None, Option}
 use Rattle.ordered.specs.declared.due.Due.{Due}
 use Rattle.balances.specs.Books.{Books}
 use Rattle.balances.specs.Lapses.{next_due, lapsed_if}

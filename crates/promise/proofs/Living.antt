@@ -16,8 +16,8 @@ use Rattle.book.specs.States.{policy_of, state_of}
 use Rattle.book.proofs.Running.{running}
 use Rattle.promise.specs.declared.call.Call.{Call}
 use Rattle.promise.specs.declared.desk.Desk.{Desk}
-use Rattle.promise.specs.Histories.{with_desk, beginning}
-use Rattle.promise.specs.Made.{world_of, CallsAll}
+use Rattle.promise.specs.Histories.{beginning}
+use Rattle.promise.specs.Made.{world_of, CallsAll, with_desk}
 use Rattle.promise.specs.Worlds.{World, final, adds_all}
 use Rattle.promise.proofs.Few.{arrives}
 

@@ -17,8 +17,8 @@ use Rattle.book.specs.Called.{Created, MovedTo}
 use Rattle.book.specs.States.{policy_of, state_of}
 use Rattle.promise.specs.declared.call.Call.{Call}
 use Rattle.promise.specs.declared.desk.Desk.{Desk}
-use Rattle.promise.specs.Histories.{with_desk, beginning, places, arrival, arrived}
-use Rattle.promise.specs.Made.{world_of, CallsAll}
+use Rattle.promise.specs.Histories.{beginning, places, arrival, arrived}
+use Rattle.promise.specs.Made.{world_of, CallsAll, with_desk}
 use Rattle.promise.specs.Worlds.{final, adds_all}
 use Rattle.promise.proofs.Living.{same-final, same-adds}
 

@@ -18,8 +18,8 @@ use Rattle.book.specs.declared.book.Book.{Book}
 use Rattle.book.specs.States.{policy_of}
 use Rattle.promise.specs.declared.call.Call.{Call}
 use Rattle.promise.specs.declared.desk.Desk.{Desk}
-use Rattle.promise.specs.Histories.{with_desk, Alike, beginning, places, arrival, arrived, Meets}
-use Rattle.promise.specs.Made.{world_of}
+use Rattle.promise.specs.Histories.{Alike, beginning, places, arrival, arrived, Meets}
+use Rattle.promise.specs.Made.{world_of, with_desk}
 use Rattle.promise.specs.Worlds.{final, adds_all}
 use Rattle.promise.proofs.Living.{same-final, same-adds}
 use Rattle.promise.proofs.Second.{Came}

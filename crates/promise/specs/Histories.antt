@@ -17,11 +17,8 @@ use Rattle.book.specs.States.{begins, policy_of, state_of}
 use Rattle.promise.specs.declared.call.Call.{Call}
 use Rattle.promise.specs.declared.desk.Desk.{Desk}
 use Rattle.promise.specs.Kept.{Keeps}
+use Rattle.promise.specs.Made.{with_desk}
 use Rattle.promise.specs.Worlds.{World, after, final, adds_all}
-
--- a state, and the lists of a desk
-abbrev pub with_desk : State → Desk → World
-with_desk s d = record { state = s; told = d.told.now; answers = d.answers.now; lapses = d.lapses.now; bytes = d.bytes.now }
 
 -- two desks whose lists hold the same
 pub record Alike (d e : Desk) : Type 0 where

@@ -2,6 +2,7 @@
 use Rattle.std.specs.Prelude.{◌≡◌, List}
 use Rattle.meaning.specs.declared.order.Order.{Order}
 use Rattle.meaning.specs.declared.record.Record.{Record}
+use Rattle.meaning.specs.Calls.{State}
 use Rattle.journal.specs.declared.journal.Journal as journal
 use Rattle.policy.specs.declared.policy.Policy as policy
 use Rattle.steps.specs.Written.{Wrote}
@@ -18,9 +19,13 @@ pub record Same (d d' : Desk) : Type 0 where
   pub lapses : d'.lapses.ghost_name ≡ d.lapses.ghost_name
   pub bytes : d'.bytes.ghost_name ≡ d.bytes.ghost_name
 
+-- a state, and the lists of a desk
+abbrev pub with_desk : State → Desk → World
+with_desk s d = record { state = s; told = d.told.now; answers = d.answers.now; lapses = d.lapses.now; bytes = d.bytes.now }
+
 module _ {J P : Type 0} (j : journal.Ghosts J) (p : policy.Ghosts P) where
   abbrev pub world_of : Book J P j p → Desk → World
-  world_of b d = record { state = state_of j p b; told = d.told.now; answers = d.answers.now; lapses = d.lapses.now; bytes = d.bytes.now }
+  world_of b d = with_desk (state_of j p b) d
 
   -- book and desk are now those of the world w, and these records joined the journal
   pub record Made (b : Book J P j p) (w : World) (new : List Record) (b' : Book J P j p) (d' : Desk) : Type 0 where

@@ -1,21 +1,19 @@
 -- What the tables refuse of a leg, and the policy after them, is what the rules refuse.
-use Rattle.std.proofs.Common.{◌≡◌, ℕ, ◌+◌, ◌≤◌, Bool, true, false, not, eqb, ltb, leb, [], ◌∷◌, Some, None, Option, sym, refl, ap, ◌∙◌, arith}
+use Rattle.std.proofs.Common.{◌≡◌, ℕ, ◌+◌, ◌≤◌, Bool, true, false, length, not, eqb, ltb, leb, [], ◌∷◌, Some, None, Option, sym, refl, ap, ◌∙◌, arith}
 use Rattle.std.specs.Option.{option_map}
 use Rattle.std.proofs.lemmas.Bool.{leb-true, leb-false, lt-ltb, le-ltb}
 use Rattle.meaning.specs.declared.opening.Opening.{Opening}
 use Rattle.meaning.specs.declared.refusal.Refusal.{Refusal}
-use Rattle.meaning.specs.declared.refusal.Refusal.TheVariants.{SameAccount, LedgersDiffer, TopPassed, DebitNotAdmitted, CreditNotAdmitted, ReservationsFull}
+use Rattle.meaning.specs.declared.refusal.Refusal.TheVariants.{SameAccount, LedgersDiffer, TopPassed, DebitNotAdmitted, CreditNotAdmitted}
 use Rattle.meaning.specs.Basics.{at, or_else, first_of}
 use Rattle.meaning.specs.declared.content.Content.TheVariants.{Post, Void}
-use Rattle.meaning.specs.declared.fate.Fate.{Fate}
-use Rattle.meaning.specs.declared.fate.Fate.TheVariants.{Live, Posted, Voided, Lapsed}
-use Rattle.meaning.specs.Given.{Journal, Reserved, reservations, the_account, the_reservation, fate}
+use Rattle.meaning.specs.Given.{Journal, Reserved, reservations, the_account, the_reservation, highest}
 use Rattle.meaning.specs.Questions.{Standing, standing, with_fate}
 use Rattle.meaning.specs.Rows.{debited, credited}
-use Rattle.meaning.specs.Rules.{Policy, number_refused, between_refused, parties_refused, room_refused, fate_refused, post_refused, void_refused, refused}
+use Rattle.meaning.specs.Rules.{Policy, number_refused, amount_refused, between_refused, parties_refused, room_refused, post_refused, void_refused, refused}
 use Rattle.meaning.specs.Sound.{top, fits}
 use Rattle.balances.specs.Books.{Books, row_asked, held_asked}
-use Rattle.balances.specs.Judged.{number_judged, amount_judged, pair_judged, parties_judged, movement_judged, room_judged, fate_judged, open_judged, part_judged, void_judged, post_judged}
+use Rattle.balances.specs.Judged.{number_judged, pair_judged, parties_judged, movement_judged, room_judged, open_judged, part_judged, void_judged, post_judged}
 use Rattle.laws.specs.Steps.{Reads}
 use Rattle.image.specs.Image.{image_of}
 use Rattle.image.proofs.Asked.{asks}
@@ -88,37 +86,31 @@ module _ (policy : Policy) (J : Journal) (T : ℕ) (h : Reads policy J) (k : Boo
   reservation_asked_lem : (r : ℕ) → held_asked k r ≡ option_map (with_fate J T) (the_reservation J r)
   reservation_asked_lem r = ap (λ b. held_asked b r) is ∙ (asks policy J h T).reservation r
 
-  pub number_judged_lem : (n : ℕ) → number_judged n k ≡ number_refused policy J T n
+  pub number_judged_lem : (n : ℕ) → number_judged n k ≡ number_refused (highest J) n
   number_judged_lem n = ap (number_judged n) is
 
-  pub room_judged_lem : room_judged k ≡ room_refused policy J T
-  room_judged_lem = ap room_judged is ∙ ap (λ m. first_of ((leb 256 m, ReservationsFull) ∷ [])) (length-oldest (with_fate J T) (reservations J))
+  pub room_judged_lem : room_judged k ≡ room_refused (length (reservations J))
+  room_judged_lem = ap room_judged is ∙ ap room_refused (length-oldest (with_fate J T) (reservations J))
 
   pub movement_judged_lem : (n d c p q z : ℕ) → z ≡ p + q → or_else (movement_judged n d c z k) (asked_if policy (option_map (debited p q) (row_asked k d)) (option_map (credited p q) (row_asked k c))) ≡ movement_refused policy J T n d c p q
   movement_judged_lem n d c p q z e =
       let ask : Option Standing → Option Standing → Option Refusal = λ D C. asked_if policy (option_map (debited p q) D) (option_map (credited p q) C) in
       ap (λ m. or_else (movement_judged n d c m k) (ask (row_asked k d) (row_asked k c))) e
-      ∙ (or_else_assoc (number_judged n k) (or_else (amount_judged (p + q)) (parties_judged (p + q) (row_asked k d) (row_asked k c))) (ask (row_asked k d) (row_asked k c))
-      ∙ (ap (or_else (number_judged n k)) (or_else_assoc (amount_judged (p + q)) (parties_judged (p + q) (row_asked k d) (row_asked k c)) (ask (row_asked k d) (row_asked k c)))
-      ∙ (ap (λ D. or_else (number_judged n k) (or_else (amount_judged (p + q)) (or_else (parties_judged (p + q) D (row_asked k c)) (ask D (row_asked k c))))) (account_asked_lem d)
-      ∙ (ap (λ C. or_else (number_judged n k) (or_else (amount_judged (p + q)) (or_else (parties_judged (p + q) (option_map (standing J T) (the_account J d)) C) (ask (option_map (standing J T) (the_account J d)) C)))) (account_asked_lem c)
-      ∙ (ap (λ r. or_else (number_judged n k) (or_else (amount_judged (p + q)) r)) (parties_judged_lem policy J T p q (the_account J d) (the_account J c))
-      ∙ ap (λ r. or_else r (or_else (amount_judged (p + q)) (parties_refused policy J T p q (the_account J d) (the_account J c)))) (number_judged_lem n))))))
+      ∙ (or_else_assoc (number_judged n k) (or_else (amount_refused (p + q)) (parties_judged (p + q) (row_asked k d) (row_asked k c))) (ask (row_asked k d) (row_asked k c))
+      ∙ (ap (or_else (number_judged n k)) (or_else_assoc (amount_refused (p + q)) (parties_judged (p + q) (row_asked k d) (row_asked k c)) (ask (row_asked k d) (row_asked k c)))
+      ∙ (ap (λ D. or_else (number_judged n k) (or_else (amount_refused (p + q)) (or_else (parties_judged (p + q) D (row_asked k c)) (ask D (row_asked k c))))) (account_asked_lem d)
+      ∙ (ap (λ C. or_else (number_judged n k) (or_else (amount_refused (p + q)) (or_else (parties_judged (p + q) (option_map (standing J T) (the_account J d)) C) (ask (option_map (standing J T) (the_account J d)) C)))) (account_asked_lem c)
+      ∙ (ap (λ r. or_else (number_judged n k) (or_else (amount_refused (p + q)) r)) (parties_judged_lem policy J T p q (the_account J d) (the_account J c))
+      ∙ ap (λ r. or_else r (or_else (amount_refused (p + q)) (parties_refused policy J T p q (the_account J d) (the_account J c)))) (number_judged_lem n))))))
 
   open_judged_lem : (o : Option Reserved) → open_judged (option_map (with_fate J T) o) ≡ void_refused policy J T o
   open_judged_lem None = refl
-  open_judged_lem (Some R) = go (fate J T R)
-    where
-      go : (f : Fate) → fate_judged f ≡ fate_refused policy J T f
-      go Live = refl
-      go Posted = refl
-      go Voided = refl
-      go Lapsed = refl
+  open_judged_lem (Some R) = refl
 
   pub void_judged_lem : (n r : ℕ) → void_judged n r k ≡ refused policy J T n (Void r)
   void_judged_lem n r =
       ap (λ x. or_else x (open_judged (held_asked k r))) (number_judged_lem n)
-      ∙ ap (or_else (number_refused policy J T n)) (ap open_judged (reservation_asked_lem r) ∙ open_judged_lem (the_reservation J r))
+      ∙ ap (or_else (number_refused (highest J) n)) (ap open_judged (reservation_asked_lem r) ∙ open_judged_lem (the_reservation J r))
 
   part_judged_lem : (z : ℕ) (o : Option Reserved) → or_else (void_refused policy J T o) (part_judged z (option_map (with_fate J T) o)) ≡ post_refused policy J T z o
   part_judged_lem z None = refl
@@ -127,5 +119,5 @@ module _ (policy : Policy) (J : Journal) (T : ℕ) (h : Reads policy J) (k : Boo
   pub post_judged_lem : (n r z : ℕ) → post_judged n r z k ≡ refused policy J T n (Post r z)
   post_judged_lem n r z =
       ap (λ x. or_else x (part_judged z (held_asked k r))) (void_judged_lem n r)
-      ∙ (or_else_assoc (number_refused policy J T n) (void_refused policy J T (the_reservation J r)) (part_judged z (held_asked k r))
-      ∙ ap (or_else (number_refused policy J T n)) (ap (λ o. or_else (void_refused policy J T (the_reservation J r)) (part_judged z o)) (reservation_asked_lem r) ∙ part_judged_lem z (the_reservation J r)))
+      ∙ (or_else_assoc (number_refused (highest J) n) (void_refused policy J T (the_reservation J r)) (part_judged z (held_asked k r))
+      ∙ ap (or_else (number_refused (highest J) n)) (ap (λ o. or_else (void_refused policy J T (the_reservation J r)) (part_judged z o)) (reservation_asked_lem r) ∙ part_judged_lem z (the_reservation J r)))

@@ -1,14 +1,12 @@
 -- What a leg that no rule refuses writes down keeps the rules of an entry.
-use Rattle.std.proofs.Common.{◌≡◌, ℕ, ◌^◌, ◌<◌, ◌≤◌, Bool, true, false, ◌&&◌, ◌||◌, eqb, ltb, leb, [], ◌∷◌, Some, None, sym, ap, ◌∙◌, arith}
+use Rattle.std.proofs.Common.{◌≡◌, ℕ, ◌^◌, ◌<◌, ◌≤◌, Bool, true, false, ◌&&◌, ltb, leb, [], ◌∷◌, Some, None, sym, ap, ◌∙◌, arith}
 use Rattle.std.specs.List.{AllByRecursion as All}
 use Rattle.std.proofs.lemmas.Bool.{le-leb, lt-ltb, and_from}
 use Rattle.meaning.specs.declared.content.Content.{Content}
 use Rattle.meaning.specs.declared.content.Content.TheVariants.{Account, Transfer, Reserve, Post, Void}
 use Rattle.meaning.specs.declared.opening.Opening.{Opening}
-use Rattle.meaning.specs.declared.refusal.Refusal.TheVariants.{PostAmount}
-use Rattle.meaning.specs.Basics.{first_of}
-use Rattle.meaning.specs.Given.{Journal, Reserved, accounts, reservations, the_account, the_reservation, due, fate}
-use Rattle.meaning.specs.Rules.{Policy, number_refused, amount_refused, parties_refused, fate_refused, post_refused, refused}
+use Rattle.meaning.specs.Given.{Journal, Reserved, accounts, reservations, the_account, the_reservation, due, fate, highest}
+use Rattle.meaning.specs.Rules.{Policy, number_refused, amount_refused, parties_refused, fate_refused, post_refused, refused, part_refused}
 use Rattle.meaning.specs.Sound.{top, last, is_number, is_amount, is_until, content_sound, sound}
 use Rattle.laws.specs.Steps.{Reads}
 use Rattle.laws.proofs.Finds.{find_all, find_key}
@@ -23,15 +21,15 @@ pub record Marked (J : Journal) : Type 0 where
   pub reservations_are : All (λ (R : Reserved). (0 < R.number) × (R.amount ≤ top)) (reservations J)
 
 module _ (policy : Policy) (J : Journal) (T n : ℕ) where
-  amount_within : (z : ℕ) → amount_refused policy J T z ≡ None → (0 < z) × (z ≤ top)
+  amount_within : (z : ℕ) → amount_refused z ≡ None → (0 < z) × (z ≤ top)
   amount_within z e = (grind arith, grind arith)
 
   marked_more : (k : Content) (l : Bool) (t : ℕ) → Marked J → refused policy J T n k ≡ None → Marked (entry n l t k ∷ J)
   marked_more (Account x y z w) l t M e = record { accounts_are = (grind arith, M.accounts_are); reservations_are = M.reservations_are }
   marked_more (Transfer d c z) l t M e = record { accounts_are = M.accounts_are; reservations_are = M.reservations_are }
   marked_more (Reserve d c z u) l t M e =
-      let h = both_none (number_refused policy J T n) _ e in
-      let a = amount_within z (both_none (amount_refused policy J T z) _ h.1).0 in
+      let h = both_none (number_refused (highest J) n) _ e in
+      let a = amount_within z (both_none (amount_refused z) _ h.1).0 in
       let above = number_above policy J T n h.0 in
       record { accounts_are = M.accounts_are; reservations_are = ((omega arith, a.1), M.reservations_are) }
   marked_more (Post r z) l t M e = record { accounts_are = M.accounts_are; reservations_are = M.reservations_are }
@@ -56,7 +54,7 @@ module _ (policy : Policy) (J : Journal) (h : Reads policy J) (T n : ℕ) (l : B
   unfolding sound
   written k lo e = and_from (is_number n) (leb T last && content_sound l T k) (is_number_lem n lo small) (and_from (leb T last) (content_sound l T k) (le-leb T last in_time) e)
 
-  numbered : number_refused policy J T n ≡ None → 0 < n
+  numbered : number_refused (highest J) n ≡ None → 0 < n
   numbered e = let above = number_above policy J T n e in omega arith
 
   account_number : (d : ℕ) (D : Opening) → the_account J d ≡ Some D → 0 < d
@@ -69,16 +67,16 @@ module _ (policy : Policy) (J : Journal) (h : Reads policy J) (T n : ℕ) (l : B
 
   pub transfer_sound : (d c z : ℕ) → d < 2 ^ 32 → c < 2 ^ 32 → refused policy J T n (Transfer d c z) ≡ None → sound (entry n l T (Transfer d c z)) ≡ true
   transfer_sound d c z sd sc e =
-      let w = both_none (number_refused policy J T n) _ e in
-      let v = both_none (amount_refused policy J T z) _ w.1 in
+      let w = both_none (number_refused (highest J) n) _ e in
+      let v = both_none (amount_refused z) _ w.1 in
       let a = amount_within policy J T n z v.0 in
       let p = parties_sound d c 0 z sd sc v.1 in
       written (Transfer d c z) (numbered w.0) (and_from (is_number d) _ p.0 (and_from (is_number c) _ p.1 (is_amount_lem z a.0 a.1)))
 
   pub reserve_sound : (d c z u : ℕ) → d < 2 ^ 32 → c < 2 ^ 32 → is_until T u ≡ true → refused policy J T n (Reserve d c z u) ≡ None → sound (entry n l T (Reserve d c z u)) ≡ true
   reserve_sound d c z u sd sc su e =
-      let w = both_none (number_refused policy J T n) _ e in
-      let v = both_none (amount_refused policy J T z) _ w.1 in
+      let w = both_none (number_refused (highest J) n) _ e in
+      let v = both_none (amount_refused z) _ w.1 in
       let a = amount_within policy J T n z v.0 in
       let p = parties_sound d c z 0 sd sc (both_none (parties_refused policy J T z 0 (the_account J d) (the_account J c)) _ v.1).0 in
       written (Reserve d c z u) (numbered w.0) (and_from (is_number d) _ p.0 (and_from (is_number c) _ p.1 (and_from (is_amount z) _ (is_amount_lem z a.0 a.1) su)))
@@ -91,17 +89,17 @@ module _ (policy : Policy) (J : Journal) (h : Reads policy J) (T n : ℕ) (l : B
 
   pub post_sound : (r z : ℕ) → r < 2 ^ 32 → refused policy J T n (Post r z) ≡ None → sound (entry n l T (Post r z)) ≡ true
   post_sound r z sr e =
-      let w = both_none (number_refused policy J T n) _ e in
+      let w = both_none (number_refused (highest J) n) _ e in
       let p = post_open policy J T z (the_reservation J r) w.1 in
       let m = reservation_number r p.0 p.1 in
       let some : 0 < z = posted_some p.0 p.1 w.1 in
       written (Post r z) (numbered w.0) (and_from (is_number r) _ (is_number_lem r m.0 sr) (is_amount_lem z some (omega arith)))
     where
       posted_some : (R : Reserved) → the_reservation J r ≡ Some R → post_refused policy J T z (the_reservation J r) ≡ None → 0 < z
-      posted_some R is none = let q = sym (ap (post_refused policy J T z) is) ∙ none in let v = (both_none (fate_refused policy J T (fate J T R)) (first_of ((eqb z 0 || ltb R.amount z, PostAmount) ∷ [])) q).1 in grind arith
+      posted_some R is none = let q = sym (ap (post_refused policy J T z) is) ∙ none in let v = (both_none (fate_refused (fate J T R)) (part_refused z R.amount) q).1 in grind arith
 
   pub void_sound : (r : ℕ) → r < 2 ^ 32 → refused policy J T n (Void r) ≡ None → sound (entry n l T (Void r)) ≡ true
   void_sound r sr e =
-      let w = both_none (number_refused policy J T n) _ e in
+      let w = both_none (number_refused (highest J) n) _ e in
       let p = void_open policy J T (the_reservation J r) w.1 in
       written (Void r) (numbered w.0) (is_number_lem r (reservation_number r p.0 p.1).0 sr)

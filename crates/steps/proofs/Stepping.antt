@@ -1,5 +1,5 @@
 -- A leg's answer and its effect on the tables, put together.
-use Rattle.std.proofs.Common.{◌≡◌, ℕ, ◌+◌, ◌<◌, ◌≤◌, Bool, true, cond, [], ◌∷◌, is_ok, Some, None, Ok, Err, Result, sym, ap, ◌∙◌, arith}
+use Rattle.std.proofs.Common.{◌≡◌, ℕ, ◌+◌, ◌<◌, ◌≤◌, Bool, true, cond, [], ◌∷◌, length, is_ok, Some, None, Ok, Err, Result, sym, ap, ◌∙◌, arith}
 use Rattle.std.proofs.lemmas.Bool.{lt-leb, true≢false, false≢true}
 use Rattle.meaning.specs.declared.content.Content.{Content}
 use Rattle.meaning.specs.declared.content.Content.TheVariants.{Transfer, Reserve}
@@ -8,7 +8,7 @@ use Rattle.meaning.specs.declared.refusal.Refusal.TheVariants.{ChainTooLong}
 use Rattle.meaning.specs.declared.reservation.Reservation.{Reservation}
 use Rattle.meaning.specs.declared.fate.Fate.TheVariants.{Live}
 use Rattle.meaning.specs.Basics.{or_else, first_of}
-use Rattle.meaning.specs.Given.{Journal, the_account}
+use Rattle.meaning.specs.Given.{Journal, the_account, highest, reservations}
 use Rattle.meaning.specs.Rules.{Policy, number_refused, amount_refused, parties_refused, room_refused, refused}
 use Rattle.meaning.specs.Sound.{last, sound}
 use Rattle.balances.specs.declared.balances.Balances.{Balances}
@@ -27,16 +27,16 @@ room_for_leg b lt = ap (λ t. first_of ((t, ChainTooLong) ∷ [])) (lt-leb 16 (l
 pub transfer_refused : (policy : Policy) (J : Journal) (T n d c z : ℕ) → movement_refused policy J T n d c 0 z ≡ refused policy J T n (Transfer d c z)
 transfer_refused policy J T n d c z =
     let e : 0 + z ≡ z = omega arith in
-    ap (λ m. or_else (number_refused policy J T n) (or_else (amount_refused policy J T m) (parties_refused policy J T 0 z (the_account J d) (the_account J c)))) e
+    ap (λ m. or_else (number_refused (highest J) n) (or_else (amount_refused m) (parties_refused policy J T 0 z (the_account J d) (the_account J c)))) e
 
-pub reserve_refused : (policy : Policy) (J : Journal) (T n d c z u : ℕ) → or_else (movement_refused policy J T n d c z 0) (room_refused policy J T) ≡ refused policy J T n (Reserve d c z u)
+pub reserve_refused : (policy : Policy) (J : Journal) (T n d c z u : ℕ) → or_else (movement_refused policy J T n d c z 0) (room_refused (length (reservations J))) ≡ refused policy J T n (Reserve d c z u)
 reserve_refused policy J T n d c z u =
-    let N = number_refused policy J T n in
+    let N = number_refused (highest J) n in
     let P = parties_refused policy J T z 0 (the_account J d) (the_account J c) in
-    let R = room_refused policy J T in
+    let R = room_refused (length (reservations J)) in
     let e : z + 0 ≡ z = omega arith in
-    or_else_assoc N (or_else (amount_refused policy J T (z + 0)) P) R
-    ∙ (ap (or_else N) (or_else_assoc (amount_refused policy J T (z + 0)) P R) ∙ ap (λ m. or_else N (or_else (amount_refused policy J T m) (or_else P R))) e)
+    or_else_assoc N (or_else (amount_refused (z + 0)) P) R
+    ∙ (ap (or_else N) (or_else_assoc (amount_refused (z + 0)) P R) ∙ ap (λ m. or_else N (or_else (amount_refused m) (or_else P R))) e)
 
 pub held_live : (R : Reservation) → R.fate ≡ Live → R ≡ held_as R.number R.debit R.credit R.amount R.deadline
 held_live R e = λ i. record { number = R.number; debit = R.debit; credit = R.credit; amount = R.amount; deadline = R.deadline; fate = e i }

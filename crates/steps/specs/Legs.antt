@@ -3,7 +3,7 @@ use Rattle.std.specs.Prelude.{ℕ, ◌+◌, ◌^◌, ◌<◌, Bool, not, [], ◌
 use Rattle.meaning.specs.declared.refusal.Refusal.{Refusal}
 use Rattle.meaning.specs.declared.refusal.Refusal.TheVariants.{DebitNotAdmitted, CreditNotAdmitted}
 use Rattle.meaning.specs.Basics.{or_else, first_of}
-use Rattle.meaning.specs.Given.{Journal, the_account}
+use Rattle.meaning.specs.Given.{Journal, the_account, highest}
 use Rattle.meaning.specs.Questions.{Standing}
 use Rattle.meaning.specs.Rules.{Policy, number_refused, amount_refused, parties_refused}
 
@@ -18,7 +18,7 @@ asked_of policy D C = first_of ((not (admits_standing policy D), DebitNotAdmitte
 -- p more pending and q more posted from account d to account c
 abbrev pub movement_refused : Policy → Journal → ℕ → (n d c p q : ℕ) → Option Refusal
 movement_refused policy J T n d c p q =
-    or_else (number_refused policy J T n) (or_else (amount_refused policy J T (p + q)) (parties_refused policy J T p q (the_account J d) (the_account J c)))
+    or_else (number_refused (highest J) n) (or_else (amount_refused (p + q)) (parties_refused policy J T p q (the_account J d) (the_account J c)))
 
 -- numbers of 32 bits: what the types say of a leg's numbers
 pub record Narrow (n d c : ℕ) : Type 0 where

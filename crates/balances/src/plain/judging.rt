@@ -3,7 +3,8 @@ ghost use Rattle.std.specs.Prelude.{◌≡◌, IfOk};
 ghost use Rattle.balances.specs.Shown.{shown};
 ghost use Rattle.balances.specs.Contents.{held_place, held_asked};
 ghost use Rattle.meaning.specs.Rows.{standing_of};
-ghost use Rattle.balances.specs.Judged.{refusal_in, number_judged, amount_judged, pair_judged, room_judged, fate_judged, part_of_judged, void_judged, post_judged};
+ghost use Rattle.meaning.specs.Rules.{amount_refused, fate_refused, part_refused};
+ghost use Rattle.balances.specs.Judged.{refusal_in, number_judged, pair_judged, room_judged, void_judged, post_judged};
 
 use super::Tables;
 use meaning::limits::TOP;
@@ -11,7 +12,7 @@ use meaning::{Account, Fate, Refusal, Reservation};
 
 // An amount from 1 to the top.
 pub(crate) fn check_amount(amount: u64) -> Result<(), Refusal>
-    ensures { refusal_in result ≡ amount_judged amount }
+    ensures { refusal_in result ≡ amount_refused amount }
 {
     if amount == 0 || amount > TOP {
         return Err(Refusal::Amount);
@@ -37,7 +38,7 @@ pub(crate) fn check_pair(debit: &Account, credit: &Account, amount: u64) -> Resu
 
 // Only a live reservation may be closed.
 pub(crate) fn check_fate(fate: Fate) -> Result<(), Refusal>
-    ensures { refusal_in result ≡ fate_judged fate }
+    ensures { refusal_in result ≡ fate_refused fate }
 {
     match fate {
         Fate::Live => Ok(()),
@@ -49,7 +50,7 @@ pub(crate) fn check_fate(fate: Fate) -> Result<(), Refusal>
 
 // A part of what is reserved.
 pub(crate) fn check_part(reserved: u64, amount: u64) -> Result<(), Refusal>
-    ensures { refusal_in result ≡ part_of_judged amount reserved }
+    ensures { refusal_in result ≡ part_refused amount reserved }
 {
     if amount == 0 || amount > reserved {
         return Err(Refusal::PostAmount);

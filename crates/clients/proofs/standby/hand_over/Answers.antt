@@ -1,5 +1,5 @@
 use Rattle.std.proofs.Common.{ap}
-use Rattle.promise.specs.Histories.{with_desk}
+use Rattle.promise.specs.Made.{with_desk}
 use Rattle.clients.proofs.TakesOver.{hands_over}
 use Rattle.clients.proofs.standby.hand_over.Goals as goal
 

@@ -1,5 +1,5 @@
 use Rattle.std.proofs.Common.{◌-◌, min, length, ap, ◌∙◌}
-use Rattle.promise.specs.Histories.{with_desk}
+use Rattle.promise.specs.Made.{with_desk}
 use Rattle.clients.proofs.Starting.{two_rolls, writes, leaves}
 use Rattle.clients.proofs.standby.written.Goals as goal
 

@@ -5,7 +5,8 @@ use Rattle.meaning.specs.Moves.{move_refused}
 use Rattle.meaning.specs.Reading.{reading as reading_of}
 use Rattle.steps.specs.Written.{records_of, journal_of, entries_of}
 use Rattle.steps.proofs.Writes.{wrote_then}
-use Rattle.promise.specs.Histories.{with_desk, beginning}
+use Rattle.promise.specs.Made.{with_desk}
+use Rattle.promise.specs.Histories.{beginning}
 use Rattle.promise.specs.Worlds.{World, final, adds_all}
 use Rattle.promise.proofs.Kept.{keeps_all}
 use Rattle.promise.proofs.Living.{lived}
