@@ -13,15 +13,15 @@ use Rattle.laws.specs.Steps.{Reads}
 use Rattle.laws.proofs.Passes.{both_none, reads_prefix, reads_rules}
 use Rattle.image.proofs.Opened.{length-in_order}
 
-room_found : (policy : Policy) (J : Journal) (T : ℕ) → room_refused (length (reservations J)) ≡ None → length (reservations J) < 256
-room_found policy J T e = grind arith
+room_found : (J : Journal) → room_refused (length (reservations J)) ≡ None → length (reservations J) < 256
+room_found J e = grind arith
 
 few_more : (policy : Policy) (J : Journal) (T n : ℕ) (k : Content) → length (reservations J) ≤ 256 → refused policy J T n k ≡ None → length (reservation_in n k (reservations J)) ≤ 256
 few_more policy J T n (Account l c m b) h e = h
 few_more policy J T n (Transfer d c z) h e = h
 few_more policy J T n (Reserve d c z u) h e =
     let w = (both_none (amount_refused z) _ (both_none (number_refused (highest J) n) _ e).1).1 in
-    let r = room_found policy J T (both_none (parties_refused policy J T z 0 (the_account J d) (the_account J c)) (room_refused (length (reservations J))) w).1 in
+    let r = room_found J (both_none (parties_refused policy J T z 0 (the_account J d) (the_account J c)) (room_refused (length (reservations J))) w).1 in
     omega arith
 few_more policy J T n (Post r z) h e = h
 few_more policy J T n (Void r) h e = h

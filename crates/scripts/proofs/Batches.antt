@@ -20,10 +20,6 @@ behind_read n bs f {x} = go (nat_le n (length bs))
 abbrev pub before : List Order → Result (List Order × List ℕ) Bad → Result (List Order × List ℕ) Bad
 before xs r = then_do r (λ r. Ok (xs ++ r.0, r.1))
 
-pub before_nothing : (r : Result (List Order × List ℕ) Bad) → before [] r ≡ r
-before_nothing (Ok r) = refl
-before_nothing (Err b) = refl
-
 before_one : (xs : List Order) (o : Order) (r : Result (List Order × List ℕ) Bad) → before (xs ++ o ∷ []) r ≡ before xs (then_do r (λ r. Ok (o ∷ r.0, r.1)))
 before_one xs o (Ok r) = ap (λ ys. Ok (ys, r.1)) (append_assoc xs (o ∷ []) r.0)
 before_one xs o (Err b) = refl
