@@ -21,8 +21,8 @@ pub struct Undo {
 
 #[derive(Drop)]
 pub struct Notes {
-    legs: Row<Undo, LEGS>,
     queue: Row<Due, RESERVATIONS>,
+    legs: Row<Undo, LEGS>,
 }
 
 // Clauses see what is noted.

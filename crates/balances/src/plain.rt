@@ -13,9 +13,9 @@ mod undoing;
 
 #[derive(Drop)]
 pub struct Tables {
-    accounts: Row<Account, ACCOUNTS>,
     reservations: Row<Reservation, RESERVATIONS>,
-    highest: u32,
     queue: Row<Due, RESERVATIONS>,
     lines: Row<Line, ACCOUNTS>,
+    highest: u32,
+    accounts: Row<Account, ACCOUNTS>,
 }

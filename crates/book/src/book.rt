@@ -20,9 +20,9 @@ mod reporting;
 
 #[derive(Drop)]
 pub struct Book<J: Journal, P: Policy> {
-    journal: J,
-    policy: P,
     balances: Balances,
+    policy: P,
+    journal: J,
     moment: u64,
     reading: Reading,
 

@@ -9,10 +9,11 @@ pub struct Reservation {
     pub number: u32,
     pub debit: u32,
     pub credit: u32,
+    // Here it takes no room of its own.
+    pub fate: Fate,
     pub amount: u64,
     // 0 stands for no deadline, as in the rules and in a record's bytes; an `Option` would leave that 0 a second meaning.
     pub deadline: u64,
-    pub fate: Fate,
 }
 
 impl Reservation {

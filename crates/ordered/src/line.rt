@@ -4,12 +4,12 @@ ghost use Rattle.std.proofs.Common.{rules};
 
 use crate::Key;
 
-// By ledger, then by label, then by number.
-#[derive(Clone, Copy, PartialEq, Eq, PartialOrd, Ord)]
+// By ledger, then by label, then by number. The fields stand by size, so that no room is lost between them.
+#[derive(Clone, Copy, PartialEq, Eq)]
 pub struct Line {
-    pub ledger: u16,
     pub label: u64,
     pub number: u32,
+    pub ledger: u16,
 }
 
 impl Key for Line {
@@ -22,6 +22,6 @@ impl Key for Line {
     ghost total = { Prim.search rules };
 
     fn is_before(&self, other: &Line) -> bool {
-        *self < *other
+        (self.ledger, self.label, self.number) < (other.ledger, other.label, other.number)
     }
 }

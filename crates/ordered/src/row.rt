@@ -27,7 +27,6 @@ impl<T: Copy, const N: usize> Model for Row<T, N> {
 
 impl<T: Copy, const N: usize> Row<T, N> {
     // No items; the blank stands in places that hold none, since there is no heap to grow on.
-    #[inline(never)]
     pub fn new(blank: T) -> Row<T, N>
         ensures { result ≡ [] }
     {

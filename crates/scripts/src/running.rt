@@ -48,7 +48,9 @@ fn check(script: &[u8]) -> Result<(Head, &[u8]), Bad>
     Ok((head, calls))
 }
 
-// Makes the calls, and puts on the page what each is told.
+// Makes the calls, and puts on the page what each is told. It is not inlined, so that the book's maker is seen to be alone
+// with it, and fills it where it stays.
+#[inline(never)]
 fn run_calls<J: Journal, P: Policy>(
     book: &mut Book<J, P>,
     calls: &[u8],

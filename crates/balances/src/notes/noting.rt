@@ -7,26 +7,33 @@ ghost use Rattle.balances.specs.Noted.{trace_of, no_legs, with_trace};
 use super::{Notes, Undo};
 use crate::plain::opening::{NO_DUE, NO_RESERVATION, no_account};
 use meaning::Refusal;
-use meaning::limits::RESERVATIONS;
+use meaning::limits::{LEGS, RESERVATIONS};
 use ordered::{Due, Row};
+
+// Not inlined, so that the places are filled where they stay, as those of accounts are.
+#[inline(never)]
+fn none_noted() -> Row<Undo, LEGS>
+    ensures { result ≡ [] }
+{
+    Row::new(Undo {
+        debit: 0,
+        debit_was: no_account(),
+        credit: 0,
+        credit_was: no_account(),
+        slot: 0,
+        slot_was: NO_RESERVATION,
+        reserved_was: 0,
+        highest_was: 0,
+    })
+}
 
 impl Notes {
     // No legs, beside an empty queue.
     pub(crate) fn new() -> Notes
         ensures { result ≡ no_legs [] }
     {
-        let blank = Undo {
-            debit: 0,
-            debit_was: no_account(),
-            credit: 0,
-            credit_was: no_account(),
-            slot: 0,
-            slot_was: NO_RESERVATION,
-            reserved_was: 0,
-            highest_was: 0,
-        };
         Notes {
-            legs: Row::new(blank),
+            legs: none_noted(),
             queue: Row::new(NO_DUE),
         }
     }

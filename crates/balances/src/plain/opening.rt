@@ -1,10 +1,11 @@
 // Empty tables, and one account more.
-ghost use Rattle.std.specs.Prelude.{◌≡◌};
+ghost use Rattle.std.specs.Prelude.{◌≡◌, []};
 ghost use Rattle.meaning.specs.Rows.{standing_of};
 ghost use Rattle.balances.specs.Shown.{shown};
 ghost use Rattle.balances.specs.Contents.{empty, no_row, opened_with};
 
 use super::Tables;
+use meaning::limits::ACCOUNTS;
 use meaning::{Account, Fate, Label, Reservation, Totals};
 use ordered::{Due, Line, Row};
 
@@ -42,17 +43,26 @@ const NO_LINE: Line = Line {
     number: 0,
 };
 
+// Tables are filled where they stay, and not copied, if a row whose blank is not all zeros is made by a function that is not
+// inlined.
+#[inline(never)]
+fn no_accounts() -> Row<Account, ACCOUNTS>
+    ensures { result ≡ [] }
+{
+    Row::new(no_account())
+}
+
 impl Tables {
     // No accounts, no reservations, no order taken.
     pub(crate) fn new() -> Tables
         ensures { shown result ≡ empty }
     {
         Tables {
-            accounts: Row::new(no_account()),
+            accounts: no_accounts(),
             reservations: Row::new(NO_RESERVATION),
-            highest: 0,
             queue: Row::new(NO_DUE),
             lines: Row::new(NO_LINE),
+            highest: 0,
         }
     }
 
