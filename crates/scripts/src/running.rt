@@ -72,6 +72,7 @@ fn run_calls<J: Journal, P: Policy>(
 }
 
 // Shows the journal where the calls went through.
+#[inline(always)]
 fn show_end<J: Journal>(page: &mut Page<'_>, ended: Result<(), Bad>, journal: &J) -> Result<(), Bad>
     ensures same { page.new.bytes.ghost_name ≡ page.old.bytes.ghost_name }
     ensures through { ended ≡ Ok tt → PutBefore page.old (told_journal (J.Journal.entries journal.now) (J.Journal.spare journal.now)) 8 result page.new }

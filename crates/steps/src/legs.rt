@@ -29,7 +29,8 @@ fn ask<P: Policy>(policy: &P, debit: &Account, credit: &Account) -> Result<(), R
     Ok(())
 }
 
-// The rules of a movement between two accounts; the policy is asked last.
+// The rules of a movement between two accounts; the policy is asked last. It is inlined as what it asks of the chain is.
+#[inline(always)]
 fn check_movement<P: Policy>(
     chain: &Chain<'_>,
     policy: &P,

@@ -15,7 +15,7 @@ use ordered::Line;
 // The tables' own functions under the names by which others ask: no one else can name the tables.
 impl Balances {
     // No accounts, no reservations, no order taken.
-    #[inline(never)]
+    #[inline(always)]
     pub fn new() -> Balances
         ensures { books_of result ≡ empty }
     {

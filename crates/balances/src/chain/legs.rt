@@ -18,7 +18,9 @@ use crate::plain::judging::{check_amount, check_pair};
 use meaning::{Event, Refusal, Reservation};
 
 impl Chain<'_> {
-    // The two accounts of a movement as they stand, or the first rule of the tables that it breaks.
+    // The two accounts of a movement as they stand, or the first rule of the tables that it breaks. This and the next are
+    // inlined, since two accounts are wide.
+    #[inline(always)]
     fn parties(&self, movement: &Movement) -> Result<Outlook, Refusal>
         ensures answer { refusal_in result ≡ movement_judged movement.now.number movement.now.debit movement.now.credit (sum movement.now.pending movement.now.posted) (books_of self.now.balances.now) }
         ensures shown { IfOk result (λ o. Shows o (row_asked (books_of self.now.balances.now) movement.now.debit) (row_asked (books_of self.now.balances.now) movement.now.credit)) }
@@ -36,6 +38,7 @@ impl Chain<'_> {
     }
 
     // What the two accounts would show after a movement, or the first rule of the tables that stands against it.
+    #[inline(always)]
     pub fn outlook(&self, movement: &Movement) -> Result<Outlook, Refusal>
         ensures answer { refusal_in result ≡ movement_judged movement.now.number movement.now.debit movement.now.credit (sum movement.now.pending movement.now.posted) (books_of self.now.balances.now) }
         ensures shown { IfOk result (λ o. Shows o (option_map (debited movement.now.pending movement.now.posted) (row_asked (books_of self.now.balances.now) movement.now.debit)) (option_map (credited movement.now.pending movement.now.posted) (row_asked (books_of self.now.balances.now) movement.now.credit))) }

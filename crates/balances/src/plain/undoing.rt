@@ -11,7 +11,8 @@ use meaning::limits::RESERVATIONS;
 use ordered::{Due, Row};
 
 impl Tables {
-    // What a leg between two accounts, and on the reservation at a place, may write over.
+    // What a leg between two accounts, and on the reservation at a place, may write over. That is wide, so it is inlined.
+    #[inline(always)]
     pub(crate) fn trace(&self, debit: u32, credit: u32, slot: usize) -> Undo
         ensures { trace_of result ≡ tracing debit credit slot (shown self.now) }
     {
