@@ -75,9 +75,6 @@ module _ {J P : Type 0} (j : journal.Ghosts J) (p : policy.Ghosts P) (b0 : Book 
       } in
       subst (λ c. MadeAll j p b0 c page0 r b page) (ap (before U.told U.new) (sym ends) ∙ U.course) last
 
-  pub all_made : (n : ℕ) (rest : List ℕ) (b : Book J P j p) (page : Page) → n ≡ 0 → Underway n rest b page → MadeAll j p b0 whole page0 (Ok tt) b page
-  all_made n rest b page none U = finished 0 rest b page (Ok tt) (subst (λ m. Underway m rest b page) none U) refl
-
   pub none_left : (n k : ℕ) (rest : List ℕ) (b : Book J P j p) (page : Page) → n ≡ suc k → (length rest == 0) ≡ true → Underway n rest b page → MadeAll j p b0 whole page0 (Ok tt) b page
   none_left n k rest b page some done U =
       finished (suc k) rest b page (Ok tt) (subst (λ m. Underway m rest b page) some U)

@@ -1,14 +1,8 @@
 use Rattle.std.proofs.Common.{rules, ◌≡◌, suc, ◌+◌, ◌-◌, ap, sym, ◌∙◌, arith}
 use Rattle.scripts.specs.Forms.{calls_at}
 use Rattle.scripts.specs.Readers.{whether}
-use Rattle.scripts.proofs.Calls.{whether_more, whether_cut, whether_done}
+use Rattle.scripts.proofs.Calls.{whether_more, whether_cut}
 use Rattle.scripts.proofs.running.check_calls.Goals as goal
-
-pub returns-then-is_done : goal.returns-then-is_done
-returns-then-is_done c =
-    let rest = c.loop-call.reader.rest.now in
-    let left : c.args.most - c.loop-call._call ≡ suc (c.args.most - (c.loop-call._call + 1)) = omega (arith, c.loop-call-test.true) in
-    sym (whether_done _ rest (sym c.if-is_done.ensures)) ∙ ap (λ n. whether (calls_at n rest)) (sym left) ∙ c.loop-call.invariant.1
 
 pub returns-in_err-read_step : goal.returns-in_err-read_step
 returns-in_err-read_step c =
