@@ -1,8 +1,9 @@
 -- What the tables say: the accounts and reservations in the order in which they came, the highest number, the
 -- queue of deadlines and the keys of the listing's lines.
-use Rattle.std.specs.Prelude.{ℕ, ◌≤◌, cond, List, [], ◌∷◌, ◌++◌, map, length, Some, None, Option, nat_lt, slice_index_or, slice_set}
+use Rattle.std.specs.Prelude.{ℕ, ◌≤◌, cond, List, [], ◌∷◌, ◌++◌, map, length, Option, nat_lt, slice_index_or, slice_set, slice_get}
 use Rattle.meaning.specs.declared.reservation.Reservation.{Reservation}
 use Rattle.meaning.specs.declared.fate.Fate.TheVariants.{Live}
+use Rattle.meaning.specs.Limits.{most_accounts}
 use Rattle.meaning.specs.Questions.{Standing}
 use Rattle.ordered.specs.declared.due.Due.{Due}
 use Rattle.ordered.specs.declared.line.Line.{Line}
@@ -18,7 +19,7 @@ pub record Books : Type 0 where
 
 -- no more accounts, and no more lines of the listing, than there is room for
 abbrev pub Few : Books → Type 0
-Few k = (length k.rows ≤ 64) × (length k.lines ≤ 64)
+Few k = (length k.rows ≤ most_accounts) × (length k.lines ≤ most_accounts)
 
 abbrev pub empty : Books
 empty = record { rows = []; held = []; highest = 0; queue = []; lines = [] }
@@ -38,10 +39,10 @@ abbrev pub held_place : Books → ℕ → ℕ
 held_place k n = place_of n (map (λ (r : Reservation). r.number) k.held)
 
 abbrev pub row_asked : Books → ℕ → Option Standing
-row_asked k n = cond (nat_lt (row_place k n) (length k.rows)) (Some (slice_index_or k.rows (row_place k n) no_row)) None
+row_asked k n = slice_get k.rows (row_place k n)
 
 abbrev pub held_asked : Books → ℕ → Option Reservation
-held_asked k n = cond (nat_lt (held_place k n) (length k.held)) (Some (slice_index_or k.held (held_place k n) no_reservation)) None
+held_asked k n = slice_get k.held (held_place k n)
 
 -- the row at a place, changed
 abbrev pub with_row : (Standing → Standing) → ℕ → Books → Books
@@ -50,6 +51,6 @@ with_row f i k = record k { rows = slice_set k.rows i (f (slice_index_or k.rows 
 abbrev pub line_of : Standing → Line
 line_of s = record { ledger = s.account.ledger; label = s.account.label; number = s.account.number }
 
--- one account more, unless there are 64 already
+-- one account more, unless there are as many as there may be
 abbrev pub opened_with : Standing → Books → Books
-opened_with s k = cond (nat_lt (length k.rows) 64) (record k { rows = k.rows ++ (s ∷ []); lines = listed (line_of s) k.lines }) k
+opened_with s k = cond (nat_lt (length k.rows) most_accounts) (record k { rows = k.rows ++ (s ∷ []); lines = listed (line_of s) k.lines }) k

@@ -8,7 +8,7 @@ use Rattle.meaning.specs.Given.{Journal, Reserved, reservations, the_reservation
 use Rattle.meaning.specs.Rules.{Policy, number_refused, refused}
 use Rattle.laws.specs.Steps.{Reads, Step, falling, Stepwise}
 use Rattle.laws.proofs.Finds.{Distinct, sum_add, sum_less, find_key}
-use Rattle.laws.proofs.Passes.{both_none, number_above, post_open, void_open}
+use Rattle.laws.proofs.Passes.{both_none, reserve_passes, post_open, void_open}
 use Rattle.laws.proofs.Numbered.{key, entry, Numbered, numbered}
 
 -- what a post or a void takes from what is pending
@@ -31,7 +31,7 @@ module _ (policy : Policy) (J : Journal) (T n : ℕ) (l : Bool) (t : ℕ) where
   step (Account x y z w) S e = λ s a. (refl, refl)
   step (Transfer d c z) S e = λ s a. (refl, omega arith)
   step (Reserve d c z u) S e =
-      let lt : highest J < n = number_above policy J T n (both_none (number_refused (highest J) n) _ e).0 in
+      let lt : highest J < n = (reserve_passes policy J T n d c z u e).above in
       let o : ended J n ≡ Live = S.unclosed n lt in
       λ s a. (grind arith, refl)
   step (Post r z) S e =

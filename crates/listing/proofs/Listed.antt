@@ -4,8 +4,9 @@ use Rattle.std.specs.List.{AllByRecursion as All}
 use Rattle.std.specs.Option.{option_map}
 use Rattle.std.proofs.ByRecursion.{All-weaker}
 use Rattle.std.proofs.lemmas.List.{length-map}
+use Rattle.laws.proofs.Finds.{find_by}
 use Rattle.meaning.specs.declared.opening.Opening.{Opening}
-use Rattle.meaning.specs.Basics.{at, sum_of, find, in_order}
+use Rattle.meaning.specs.Basics.{at, sum_of, in_order}
 use Rattle.meaning.specs.Given.{Journal, accounts}
 use Rattle.meaning.specs.Listing.{earlier, fields, account_line, sum_line, ends, lines, listing}
 use Rattle.meaning.specs.Questions.{Standing, standing}
@@ -74,7 +75,7 @@ listed policy b J T reads e =
     let As = in_order earlier (accounts J) in
     let row : k.lines ≡ map line_of As = ap (λ (x : Books). x.lines) e ∙ sym (map-in_order earlier line_before line_of (λ A B. refl) (accounts J)) in
     let found = all_found akey (accounts J) (known policy J reads).apart in
-    let shown : All (Shown k J T) (accounts J) = All-weaker (λ A. find akey (akey A) (accounts J) ≡ Some A) (Shown k J T) (λ A f. ap (λ (x : Books). row_asked x A.number) e ∙ (asks policy J reads T).account A.number ∙ ap (option_map (standing J T)) f) (accounts J) found in
+    let shown : All (Shown k J T) (accounts J) = All-weaker (λ A. find_by akey (akey A) (accounts J) ≡ Some A) (Shown k J T) (λ A f. ap (λ (x : Books). row_asked x A.number) e ∙ (asks policy J reads T).account A.number ∙ ap (option_map (standing J T)) f) (accounts J) found in
     let shown-in : All (Shown k J T) As = all_in_order earlier (Shown k J T) (accounts J) shown in
     let low = all_in_order earlier (λ A. Small (standing J T A)) (accounts J) (small b J T e) in
     let few : length As ≤ 64 = omega (arith, b.few.1, ap length row, length-map As line_of) in

@@ -23,6 +23,7 @@ impl<'a> Keys<'a> {
     }
 
     // Whether no key of the ledger comes next.
+    #[tactic(auto, using(crate::proofs::Coming::next_is, crate::proofs::Coming::none_left))]
     pub(crate) fn ends(&self, ledger: u16) -> bool
         ensures { result ≡ ends_in ledger (left self.now) }
     {
@@ -39,6 +40,7 @@ impl Iterator for Keys<'_> {
 
     ghost remaining = { item_count left };
 
+    #[tactic(auto, using(crate::proofs::Coming::next_is, crate::proofs::Coming::none_left))]
     fn next(&mut self) -> Option<Line> {
         let key = self.balances.line_at(self.place)?;
         self.place += 1;

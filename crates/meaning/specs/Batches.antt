@@ -7,6 +7,7 @@ use Rattle.meaning.specs.declared.refusal.Refusal.TheVariants.{ChainRefused, Cha
 use Rattle.meaning.specs.declared.answers.Stop.{Stop}
 use Rattle.meaning.specs.Given.{Journal}
 use Rattle.meaning.specs.Basics.{sum_of, first_of}
+use Rattle.meaning.specs.Limits.{most_legs}
 use Rattle.meaning.specs.Rules.{Policy, leg_refused, leg_writes}
 
 -- what an order is answered
@@ -61,7 +62,7 @@ by_legs T os (Some s) = but_one s.place s.refusal os
 abbrev pub chain : Policy → Journal → (T spare : ℕ) → List Order → Outcome
 chain policy J T spare os =
     cond (unfinished os) (but_one (length os - 1) ChainUnfinished os)
-    (cond (nat_lt 16 (length os)) (all_are (Err ChainTooLong) os)
+    (cond (nat_lt most_legs (length os)) (all_are (Err ChainTooLong) os)
     (cond (nat_lt spare (length os)) (all_are (Err ChainOverSpare) os)
     (by_legs T os (first_refused policy J T os))))
 

@@ -6,6 +6,7 @@
 --   Post reservation amount · Void reservation
 -- where until 0 stands for no deadline.
 use Rattle.std.specs.Prelude.{ℕ, max, Bool, true, false, cond, ◌&&◌, List, [], ◌∷◌, Some, None, Option, ◌==◌, nat_le, nat_lt}
+use Rattle.std.specs.List.{find}
 use Rattle.meaning.specs.declared.content.Content.{Content}
 use Rattle.meaning.specs.declared.content.Content.TheVariants.{Account, Transfer, Reserve, Post, Void}
 use Rattle.meaning.specs.declared.record.Record.{Record}
@@ -13,7 +14,7 @@ use Rattle.meaning.specs.declared.opening.Opening.{Opening}
 use Rattle.meaning.specs.declared.fate.Fate.{Fate}
 use Rattle.meaning.specs.declared.fate.Fate.TheVariants.{Live, Posted, Voided, Lapsed}
 use Rattle.meaning.specs.Fates.{decided}
-use Rattle.meaning.specs.Basics.{at, sum_of, find}
+use Rattle.meaning.specs.Basics.{at, sum_of}
 
 abbrev pub Journal : Type 0
 Journal = List Record
@@ -50,10 +51,10 @@ reservations [] = []
 reservations (e ∷ J) = reservation_in e.number e.content (reservations J)
 
 abbrev pub the_account : Journal → ℕ → Option Opening
-the_account J a = find (λ (A : Opening). A.number) a (accounts J)
+the_account J a = find (λ (A : Opening). A.number == a) (accounts J)
 
 abbrev pub the_reservation : Journal → ℕ → Option Reserved
-the_reservation J r = find (λ (R : Reserved). R.number) r (reservations J)
+the_reservation J r = find (λ (R : Reserved). R.number == r) (reservations J)
 
 -- The fate of a reservation: posted or voided if an entry of J names it, else lapsed if its deadline has come.
 

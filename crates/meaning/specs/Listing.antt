@@ -1,10 +1,11 @@
 -- The listing as bytes: a line for each account, by ledger, label and number, and a sum line after each ledger.
 use Rattle.std.specs.Prelude.{ℕ, Bool, true, cond, not, ◌&&◌, ◌||◌, List, [], ◌∷◌, ◌++◌, length, decimal, Option, ◌==◌, nat_lt}
+use Rattle.std.specs.List.{filter}
+use Rattle.std.specs.Int.{w64, to_be_bytes}
 use Rattle.meaning.specs.declared.opening.Opening.{Opening}
 use Rattle.meaning.specs.declared.refusal.Refusal.{Refusal}
 use Rattle.meaning.specs.declared.refusal.Refusal.TheVariants.{BufferTooShort}
-use Rattle.meaning.specs.Labels.{bytes8}
-use Rattle.meaning.specs.Basics.{those, in_order, first_of}
+use Rattle.meaning.specs.Basics.{in_order, first_of}
 use Rattle.meaning.specs.Given.{Journal, accounts, debits, credits, pending, posted, of_ledger}
 
 -- by ledger, then label, then number
@@ -19,7 +20,7 @@ fields (n ∷ ns) = 32 ∷ (decimal n ++ fields ns)
 
 -- the letters of a label, without its filling
 abbrev pub spelled : ℕ → List ℕ
-spelled label = those (λ b. not (b == 32)) (bytes8 label)
+spelled label = filter (λ b. not (b == 32)) (to_be_bytes w64 label)
 
 -- a ledger, a name, numbers and the end of the line
 abbrev pub line_bytes : ℕ → (name numbers : List ℕ) → List ℕ

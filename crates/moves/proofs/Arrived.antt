@@ -2,8 +2,8 @@
 use Rattle.std.proofs.Common.{◌≡◌, ℕ, ◌≤◌, Bool, true, false, cond, leb, List, [], ◌∷◌, ◌++◌, map, length, take, drop, Some, None, Ok, Err, sym, refl, ap, ◌∙◌, arith, length-take}
 use lib.ListN.{length-map}
 use Rattle.std.proofs.lemmas.Bool.Decides.{nat_tests}
+use Rattle.std.specs.List.{filter}
 use Rattle.meaning.specs.declared.refusal.Refusal.{Refusal}
-use Rattle.meaning.specs.Basics.{those}
 use Rattle.meaning.specs.Given.{Journal, Reserved, reservations}
 use Rattle.meaning.specs.Rules.{Policy}
 use Rattle.meaning.specs.Moves.{sooner, awaiting, lapsed, first_deadline, next_deadline, move_refused, refused_with}
@@ -25,7 +25,7 @@ use Rattle.moves.proofs.Falling.{number_of, is_due, due_front, due_within, front
 
 -- the queue of the image holds the keys of those that wait
 queue_of : (J : Journal) (T : ℕ) → map due_of (awaiting J T) ≡ (image_of J T).queue
-queue_of J T = map-in_order sooner due_before due_of (λ R S. refl) (those (waiting J T) (reservations J))
+queue_of J T = map-in_order sooner due_before due_of (λ R S. refl) (filter (waiting J T) (reservations J))
 
 abbrev number : Reserved → ℕ
 number R = R.number
@@ -33,11 +33,11 @@ number R = R.number
 abbrev falls : ℕ → Reserved → Bool
 falls t R = leb R.until t
 
-those_keys : (t : ℕ) (rs : List Reserved) → map number (those (falls t) rs) ≡ map number_of (those (is_due t) (map due_of rs))
+those_keys : (t : ℕ) (rs : List Reserved) → map number (filter (falls t) rs) ≡ map number_of (filter (is_due t) (map due_of rs))
 those_keys t [] = refl
 those_keys t (R ∷ rs) = by (falls t R) (those_keys t rs)
   where
-    by : (b : Bool) → map number (those (falls t) rs) ≡ map number_of (those (is_due t) (map due_of rs)) → map number (cond b (R ∷ those (falls t) rs) (those (falls t) rs)) ≡ map number_of (cond b (due_of R ∷ those (is_due t) (map due_of rs)) (those (is_due t) (map due_of rs)))
+    by : (b : Bool) → map number (filter (falls t) rs) ≡ map number_of (filter (is_due t) (map due_of rs)) → map number (cond b (R ∷ filter (falls t) rs) (filter (falls t) rs)) ≡ map number_of (cond b (due_of R ∷ filter (is_due t) (map due_of rs)) (filter (is_due t) (map due_of rs)))
     by true r = ap (λ ns. R.number ∷ ns) r
     by false r = r
 
@@ -52,8 +52,8 @@ next-deadline J t = ap (λ q. deadline_in (first q)) (sym (queue_of J t)) ∙ fi
 lapsed_front : (J : Journal) (T t : ℕ) → lapsed J T t ≡ map number_of (take (due_count t (image_of J T).queue) (image_of J T).queue)
 lapsed_front J T t =
     those_keys t (awaiting J T)
-    ∙ (ap (λ q. map number_of (those (is_due t) q)) (queue_of J T)
-    ∙ ap (map number_of) (due_front t (image_of J T).queue (in_order_ordered due_before due_lawful (map due_of (those (waiting J T) (reservations J))))))
+    ∙ (ap (λ q. map number_of (filter (is_due t) q)) (queue_of J T)
+    ∙ ap (map number_of) (due_front t (image_of J T).queue (in_order_ordered due_before due_lawful (map due_of (filter (waiting J T) (reservations J))))))
 
 lapsed_count : (J : Journal) (T t : ℕ) → length (lapsed J T t) ≡ due_count t (image_of J T).queue
 lapsed_count J T t =

@@ -1,7 +1,6 @@
 -- What falls due by a moment: the front of the queue, and the numbers that are written.
 use Rattle.std.proofs.Common.{◌≡◌, ℕ, suc, ◌+◌, ◌≤◌, Bool, true, false, cond, leb, List, [], ◌∷◌, map, length, take, Some, sym, refl, ap, ◌∙◌, add-one, arith}
-use Rattle.std.specs.List.{AllByRecursion as All}
-use Rattle.meaning.specs.Basics.{those}
+use Rattle.std.specs.List.{AllByRecursion as All, filter}
 use Rattle.ordered.specs.declared.due.Due.{Due}
 use Rattle.ordered.specs.Orders.{due_before}
 use Rattle.ordered.specs.Rows.{without, Ordered}
@@ -19,16 +18,16 @@ number_of d = d.number
 abbrev pub is_due : ℕ → Due → Bool
 is_due t d = leb d.deadline t
 
-those_none : {X : Type 0} (p : X → Bool) (xs : List X) → All (λ x. p x ≡ false) xs → those p xs ≡ []
+those_none : {X : Type 0} (p : X → Bool) (xs : List X) → All (λ x. p x ≡ false) xs → filter p xs ≡ []
 those_none p [] h = refl
 those_none p (x ∷ xs) h = rw h.0 (those_none p xs h.1)
 
 -- in a row in order, those that are due stand in front
-pub due_front : (t : ℕ) (ds : List Due) → Ordered due_before ds → those (is_due t) ds ≡ take (due_count t ds) ds
+pub due_front : (t : ℕ) (ds : List Due) → Ordered due_before ds → filter (is_due t) ds ≡ take (due_count t ds) ds
 due_front t [] h = refl
 due_front t (d ∷ ds) h = go (is_due t d) refl (due_front t ds h.1)
   where
-    go : (b : Bool) → is_due t d ≡ b → those (is_due t) ds ≡ take (due_count t ds) ds → cond b (d ∷ those (is_due t) ds) (those (is_due t) ds) ≡ take (cond b (due_count t ds + 1) 0) (d ∷ ds)
+    go : (b : Bool) → is_due t d ≡ b → filter (is_due t) ds ≡ take (due_count t ds) ds → cond b (d ∷ filter (is_due t) ds) (filter (is_due t) ds) ≡ take (cond b (due_count t ds + 1) 0) (d ∷ ds)
     go true e r = rw (add-one (due_count t ds)) (ap (λ xs. d ∷ xs) r)
     go false e r = those_none (is_due t) ds (none_due t d ds h e).1
 

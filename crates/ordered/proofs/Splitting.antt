@@ -1,18 +1,17 @@
 -- A test that every earlier key passes as well splits a row in order into a front and a rest.
 use Rattle.std.proofs.Common.{◌≡◌, Bool, true, false, not, List, [], ◌∷◌, sym, refl, ap, ◌∙◌}
-use Rattle.std.specs.List.{AllByRecursion as All}
+use Rattle.std.specs.List.{AllByRecursion as All, filter}
 use Rattle.std.proofs.ByRecursion.{All-weaker}
 use Rattle.std.proofs.lemmas.Bool.{both_ways}
-use Rattle.meaning.specs.Basics.{those}
 use Rattle.ordered.specs.Rows.{Ordered}
 use Rattle.ordered.specs.Laws.{Lawful, Splits}
 
 module _ {K : Type 0} (p : K → Bool) where
-  those_none : (xs : List K) → All (λ x. p x ≡ false) xs → those p xs ≡ []
+  those_none : (xs : List K) → All (λ x. p x ≡ false) xs → filter p xs ≡ []
   those_none [] h = refl
   those_none (x ∷ xs) h = rw h.0 (those_none xs h.1)
 
-  those_all : (xs : List K) → All (λ x. p x ≡ false) xs → those (λ x. not (p x)) xs ≡ xs
+  those_all : (xs : List K) → All (λ x. p x ≡ false) xs → filter (λ x. not (p x)) xs ≡ xs
   those_all [] h = refl
   those_all (x ∷ xs) h = rw h.0 (ap (λ ys. x ∷ ys) (those_all xs h.1))
 

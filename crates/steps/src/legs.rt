@@ -1,15 +1,16 @@
 // One leg: its rules in their order, and what it does to the tables.
 ghost use Rattle.std.specs.Prelude.{◌≡◌, ℕ, ◌+◌, ◌^◌, ◌<◌, ◌≤◌, true, is_ok, if◌then◌else◌};
+ghost use Rattle.std.specs.Result.{result_err};
 ghost use Rattle.meaning.specs.declared.content.Content.TheVariants.{Transfer, Reserve, Post, Void};
 ghost use Rattle.meaning.specs.declared.fate.Fate.TheVariants.{Live};
+ghost use Rattle.meaning.specs.Basics.{first_of};
 ghost use Rattle.meaning.specs.Given.{Journal};
 ghost use Rattle.meaning.specs.Rows.{standing_of};
-ghost use Rattle.meaning.specs.Rules.{Policy as Admission, deadline as deadline_of, content_of};
+ghost use Rattle.meaning.specs.Rules.{Policy as Admission, policy_checks, movement_refused, deadline as deadline_of, content_of};
 ghost use Rattle.meaning.specs.Sound.{last, is_until};
-ghost use Rattle.balances.specs.Judged.{refusal_in};
 ghost use Rattle.balances.specs.Chains.{GoesOn};
 ghost use Rattle.balances.specs.Undone.{legs_of};
-ghost use Rattle.steps.specs.Legs.{asked_of, movement_refused, Narrow};
+ghost use Rattle.steps.specs.Legs.{Narrow};
 ghost use Rattle.steps.specs.Shown.{Shown, Stepped};
 
 use balances::{Chain, Movement};
@@ -18,7 +19,7 @@ use policy::Policy;
 
 // The policy's word on what two accounts would show.
 fn ask<P: Policy>(policy: &P, debit: &Account, credit: &Account) -> Result<(), Refusal>
-    ensures { refusal_in result ≡ asked_of (P.Policy.admits policy.now) (standing_of debit.now) (standing_of credit.now) }
+    ensures { result_err result ≡ first_of (policy_checks (P.Policy.admits policy.now) (standing_of debit.now) (standing_of credit.now)) }
 {
     if !policy.admits(debit.class, debit.limit, &debit.totals) {
         return Err(Refusal::DebitNotAdmitted);
@@ -36,7 +37,7 @@ fn check_movement<P: Policy>(
     movement: Movement,
 ) -> Result<(), Refusal>
     ensures narrow { Narrow movement.number movement.debit movement.credit }
-    ensures answer { (J : Journal) (T : ℕ) → Shown (P.Policy.admits policy.now) J T chain.now.balances.now → movement.pending + movement.posted < 2 ^ 64 → refusal_in result ≡ movement_refused (P.Policy.admits policy.now) J T movement.number movement.debit movement.credit movement.pending movement.posted }
+    ensures answer { (J : Journal) (T : ℕ) → Shown (P.Policy.admits policy.now) J T chain.now.balances.now → movement.pending + movement.posted < 2 ^ 64 → result_err result ≡ movement_refused (P.Policy.admits policy.now) J T movement.number movement.debit movement.credit movement.pending movement.posted }
 {
     let outlook = chain.outlook(&movement)?;
     ask(policy, &outlook.debit, &outlook.credit)
