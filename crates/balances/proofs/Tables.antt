@@ -8,7 +8,7 @@ use denote.Param.Members.{Once}
 use lib.Seq.{set_out}
 use Rattle.meaning.specs.declared.account.Account.{Account}
 use Rattle.meaning.specs.declared.reservation.Reservation.{Reservation}
-use Rattle.meaning.specs.Questions.{Standing}
+use Rattle.meaning.specs.declared.standing.Standing.{Standing}
 use Rattle.meaning.specs.Rows.{standing_of}
 use Rattle.ordered.specs.declared.due.Due.{Due}
 use Rattle.ordered.specs.declared.line.Line.{Line}

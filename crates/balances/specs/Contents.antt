@@ -4,7 +4,7 @@ use Rattle.std.specs.Prelude.{ℕ, ◌≤◌, cond, List, [], ◌∷◌, ◌++�
 use Rattle.meaning.specs.declared.reservation.Reservation.{Reservation}
 use Rattle.meaning.specs.declared.fate.Fate.TheVariants.{Live}
 use Rattle.meaning.specs.Limits.{most_accounts}
-use Rattle.meaning.specs.Questions.{Standing}
+use Rattle.meaning.specs.declared.standing.Standing.{Standing}
 use Rattle.ordered.specs.declared.due.Due.{Due}
 use Rattle.ordered.specs.declared.line.Line.{Line}
 use Rattle.balances.specs.Places.{place_of}
@@ -26,7 +26,7 @@ empty = record { rows = []; held = []; highest = 0; queue = []; lines = [] }
 
 -- what stands at no place; the label is a hyphen
 abbrev pub no_row : Standing
-no_row = record { account = record { number = 0; ledger = 0; class = 0; limit = 0; label = 0x2d20202020202020 }; dp = 0; dq = 0; cp = 0; cq = 0 }
+no_row = record { account = record { number = 0; ledger = 0; class = 0; limit = 0; label = 0x2d20202020202020 }; debits_pending = 0; debits_posted = 0; credits_pending = 0; credits_posted = 0 }
 
 abbrev pub no_reservation : Reservation
 no_reservation = record { number = 0; debit = 0; credit = 0; amount = 0; deadline = 0; fate = Live }

@@ -7,7 +7,7 @@ use Rattle.meaning.specs.declared.refusal.Refusal.TheVariants.{ChainTooLong, Deb
 use Rattle.meaning.specs.Limits.{most_legs}
 use Rattle.meaning.specs.Rules.{number_refused, amount_refused, room_refused, fate_refused, part_refused, pair_checks}
 use Rattle.meaning.specs.Basics.{first_of}
-use Rattle.meaning.specs.Questions.{Standing}
+use Rattle.meaning.specs.declared.standing.Standing.{Standing}
 use Rattle.balances.specs.Contents.{Books, row_asked, held_asked}
 use Rattle.balances.specs.Noted.{Noted}
 

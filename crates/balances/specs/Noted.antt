@@ -2,7 +2,7 @@
 use Rattle.std.specs.Prelude.{ℕ, cond, List, [], ◌∷◌, ◌++◌, length, nat_lt}
 use Rattle.meaning.specs.declared.reservation.Reservation.{Reservation}
 use Rattle.meaning.specs.Limits.{most_legs}
-use Rattle.meaning.specs.Questions.{Standing}
+use Rattle.meaning.specs.declared.standing.Standing.{Standing}
 use Rattle.meaning.specs.Rows.{standing_of}
 use Rattle.ordered.specs.declared.due.Due.{Due}
 use Rattle.balances.specs.declared.notes.Undo.{Undo}

@@ -21,5 +21,5 @@ before_all = record {
 }
 
 -- what the rules make of a past
-abbrev pub then_was : List Order → List Call → State
-then_was os past = (final season os before_all past).state
+abbrev pub season_was : List Order → List Call → State
+season_was os past = (final season os before_all past).state

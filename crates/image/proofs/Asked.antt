@@ -3,7 +3,8 @@ use Rattle.std.proofs.Common.{ℕ, refl, ◌∙◌}
 use Rattle.meaning.specs.declared.reservation.Reservation.{Reservation}
 use Rattle.meaning.specs.Given.{Journal, accounts, reservations}
 use Rattle.meaning.specs.Rules.{Policy}
-use Rattle.meaning.specs.Questions.{Standing, standing, with_fate}
+use Rattle.meaning.specs.declared.standing.Standing.{Standing}
+use Rattle.meaning.specs.Questions.{standing, with_fate}
 use Rattle.laws.specs.Steps.{Reads}
 use Rattle.laws.proofs.Numbered.{key, numbered}
 use Rattle.laws.proofs.Known.{akey, known}

@@ -13,7 +13,7 @@ use Rattle.meaning.specs.declared.fate.Fate.TheVariants.{Live, Posted, Voided, L
 use Rattle.meaning.specs.Basics.{at, in_order}
 use Rattle.meaning.specs.Fates.{next, ends, decided}
 use Rattle.meaning.specs.Given.{Journal, Reserved, accounts, reservations, the_reservation, is_live, highest, Side, debits, credits, pick, through, posted}
-use Rattle.meaning.specs.Questions.{Standing}
+use Rattle.meaning.specs.declared.standing.Standing.{Standing}
 use Rattle.meaning.specs.Rows.{debit_released, credit_released, met}
 use Rattle.ordered.specs.Orders.{due_before, line_before}
 use Rattle.ordered.specs.Rows.{without}
@@ -38,7 +38,7 @@ abbrev pub pending_by : Journal → (Reserved → Fate) → Side → ℕ → ℕ
 pending_by J F = through (λ (R : Reserved). R.debit) (λ R. R.credit) (λ R. at (is_live (F R)) R.amount) (reservations J)
 
 abbrev pub standing_by : Journal → (Reserved → Fate) → Opening → Standing
-standing_by J F A = record { account = A; dp = pending_by J F debits A.number; dq = posted J debits A.number; cp = pending_by J F credits A.number; cq = posted J credits A.number }
+standing_by J F A = record { account = A; debits_pending = pending_by J F debits A.number; debits_posted = posted J debits A.number; credits_pending = pending_by J F credits A.number; credits_posted = posted J credits A.number }
 
 abbrev pub fated : (Reserved → Fate) → Reserved → Reservation
 fated F R = record { number = R.number; debit = R.debit; credit = R.credit; amount = R.amount; deadline = R.until; fate = F R }

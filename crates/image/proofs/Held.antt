@@ -79,7 +79,7 @@ module _ (policy : Policy) (J : Journal) (h : Reads policy J) (T n : ℕ) (l : B
       let fd : A.number ≡ d → pending J T debits A.number + posted J debits A.number + z + 0 ≤ top = λ x. subst (λ a. pending J T debits a + posted J debits a + z + 0 ≤ top) (kd ∙ sym x) m.moves.debit_fits in
       let fc : A.number ≡ c → pending J T credits A.number + posted J credits A.number + z + 0 ≤ top = λ x. subst (λ a. pending J T credits a + posted J credits a + z + 0 ≤ top) (kc ∙ sym x) m.moves.credit_fits in
       moved_row A (pending J T debits A.number) (posted J debits A.number) (pending J T credits A.number) (posted J credits A.number) d c z 0 ne fd fc
-      ∙ (λ i. record { account = A; dp = sym (sd.0 ∙ now_live (pending J T debits A.number) (at (eqb d A.number) z)) i; dq = (zero (posted J debits A.number) (eqb d A.number) ∙ sym sd.1) i; cp = sym (sc.0 ∙ now_live (pending J T credits A.number) (at (eqb c A.number) z)) i; cq = (zero (posted J credits A.number) (eqb c A.number) ∙ sym sc.1) i })
+      ∙ (λ i. record { account = A; debits_pending = sym (sd.0 ∙ now_live (pending J T debits A.number) (at (eqb d A.number) z)) i; debits_posted = (zero (posted J debits A.number) (eqb d A.number) ∙ sym sd.1) i; credits_pending = sym (sc.0 ∙ now_live (pending J T credits A.number) (at (eqb c A.number) z)) i; credits_posted = (zero (posted J credits A.number) (eqb c A.number) ∙ sym sc.1) i })
     where
       zero : (m : ℕ) (b : Bool) → m + at b 0 ≡ m
       zero m true = omega arith

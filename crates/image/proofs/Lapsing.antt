@@ -63,7 +63,7 @@ sum_same f g [] h = refl
 sum_same f g (x ∷ xs) h = omega (arith, h.0, sum_same f g xs h.1)
 
 same_row : (J : Journal) (F G : Reserved → Fate) → ((s : Side) (a : ℕ) → pending_by J F s a ≡ pending_by J G s a) → (A : Opening) → standing_by J F A ≡ standing_by J G A
-same_row J F G h A = λ i. record { account = A; dp = h debits A.number i; dq = posted J debits A.number; cp = h credits A.number i; cq = posted J credits A.number }
+same_row J F G h A = λ i. record { account = A; debits_pending = h debits A.number i; debits_posted = posted J debits A.number; credits_pending = h credits A.number i; credits_posted = posted J credits A.number }
 
 -- the same fates give the same image
 pub same_image : (J : Journal) (F G : Reserved → Fate) → All (λ Q. F Q ≡ G Q) (reservations J) → image_by J F ≡ image_by J G

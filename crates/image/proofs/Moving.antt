@@ -4,7 +4,7 @@ use Rattle.std.proofs.lemmas.Bool.{le-leb, eqb-true, ne_eqb, eqb-false, eq-eqb}
 use Rattle.meaning.specs.declared.opening.Opening.{Opening}
 use Rattle.meaning.specs.Basics.{at}
 use Rattle.meaning.specs.Sound.{top, fits}
-use Rattle.meaning.specs.Questions.{Standing}
+use Rattle.meaning.specs.declared.standing.Standing.{Standing}
 use Rattle.meaning.specs.Rows.{debited, credited}
 use Rattle.balances.specs.Books.{no_row}
 use Rattle.balances.specs.Places.{place_of}
@@ -49,17 +49,17 @@ module _ (S : Opening → Standing) (same : (A : Opening) → skey (S A) ≡ ake
 -- p more pending and q more posted from account d to account c, where both sides take it
 module _ (A : Opening) (dp dq cp cq : ℕ) (d c p q : ℕ) (ne : d ≡ c → ⊥) (fd : A.number ≡ d → dp + dq + p + q ≤ top) (fc : A.number ≡ c → cp + cq + p + q ≤ top) where
   abbrev row : Standing
-  row = record { account = A; dp = dp; dq = dq; cp = cp; cq = cq }
+  row = record { account = A; debits_pending = dp; debits_posted = dq; credits_pending = cp; credits_posted = cq }
 
-  standing_of_lem : {dp' dq' cp' cq' dp'' dq'' cp'' cq'' : ℕ} → dp' ≡ dp'' → dq' ≡ dq'' → cp' ≡ cp'' → cq' ≡ cq'' → ◌≡◌ {A = Standing} (record { account = A; dp = dp'; dq = dq'; cp = cp'; cq = cq' }) (record { account = A; dp = dp''; dq = dq''; cp = cp''; cq = cq'' })
-  standing_of_lem e1 e2 e3 e4 = λ i. record { account = A; dp = e1 i; dq = e2 i; cp = e3 i; cq = e4 i }
+  standing_of_lem : {dp' dq' cp' cq' dp'' dq'' cp'' cq'' : ℕ} → dp' ≡ dp'' → dq' ≡ dq'' → cp' ≡ cp'' → cq' ≡ cq'' → ◌≡◌ {A = Standing} (record { account = A; debits_pending = dp'; debits_posted = dq'; credits_pending = cp'; credits_posted = cq' }) (record { account = A; debits_pending = dp''; debits_posted = dq''; credits_pending = cp''; credits_posted = cq'' })
+  standing_of_lem e1 e2 e3 e4 = λ i. record { account = A; debits_pending = e1 i; debits_posted = e2 i; credits_pending = e3 i; credits_posted = e4 i }
 
   -- nothing is added to what is not concerned
   none : (m n x : ℕ) (b : Bool) → b ≡ false → n ≡ n + at b x
   none m n x b e = let z : at b x ≡ 0 = ap (λ t. at t x) e in omega arith
 
   abbrev after : Standing
-  after = record { account = A; dp = dp + at (eqb d A.number) p; dq = dq + at (eqb d A.number) q; cp = cp + at (eqb c A.number) p; cq = cq + at (eqb c A.number) q }
+  after = record { account = A; debits_pending = dp + at (eqb d A.number) p; debits_posted = dq + at (eqb d A.number) q; credits_pending = cp + at (eqb c A.number) p; credits_posted = cq + at (eqb c A.number) q }
 
   pub moved_row : changed_if skey c no_row (credited p q) (changed_if skey d no_row (debited p q) row) ≡ after
   moved_row = go (eqb A.number d) refl

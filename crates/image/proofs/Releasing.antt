@@ -7,7 +7,7 @@ use Rattle.std.proofs.lemmas.Bool.Decides.{nat_tests}
 use Rattle.meaning.specs.declared.opening.Opening.{Opening}
 use Rattle.meaning.specs.Basics.{at}
 use Rattle.meaning.specs.Given.{Reserved}
-use Rattle.meaning.specs.Questions.{Standing}
+use Rattle.meaning.specs.declared.standing.Standing.{Standing}
 use Rattle.meaning.specs.Rows.{debit_released, credit_released}
 use Rattle.ordered.specs.Orders.{due_before}
 use Rattle.ordered.specs.Rows.{apart, without}
@@ -33,7 +33,7 @@ release n d a b p q p' q' ep eq le false e =
 
 module _ (A : Opening) (dp dq cp cq dp' dq' cp' cq' d c a b : ℕ) (le : b ≤ a) (e1 : dp ≡ dp' + at (eqb d A.number) a) (e2 : dq' ≡ dq + at (eqb d A.number) b) (e3 : cp ≡ cp' + at (eqb c A.number) a) (e4 : cq' ≡ cq + at (eqb c A.number) b) where
   abbrev row : (dp dq cp cq : ℕ) → Standing
-  row w x y z = record { account = A; dp = w; dq = x; cp = y; cq = z }
+  row w x y z = record { account = A; debits_pending = w; debits_posted = x; credits_pending = y; credits_posted = z }
 
   on_debit : (t : Bool) → cond t (debit_released a b (row dp dq cp cq)) (row dp dq cp cq) ≡ row (cond t (dp - a) dp) (cond t (dq + min b (min a dp)) dq) cp cq
   on_debit true = refl

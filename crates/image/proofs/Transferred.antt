@@ -43,7 +43,7 @@ module _ (policy : Policy) (J : Journal) (h : Reads policy J) (T n : ℕ) (l : B
       let fd : A.number ≡ d → pending J T debits A.number + posted J debits A.number + 0 + z ≤ top = λ x. subst (λ a. pending J T debits a + posted J debits a + 0 + z ≤ top) (kd ∙ sym x) m.moves.debit_fits in
       let fc : A.number ≡ c → pending J T credits A.number + posted J credits A.number + 0 + z ≤ top = λ x. subst (λ a. pending J T credits a + posted J credits a + 0 + z ≤ top) (kc ∙ sym x) m.moves.credit_fits in
       moved_row A (pending J T debits A.number) (posted J debits A.number) (pending J T credits A.number) (posted J credits A.number) d c 0 z ne fd fc
-      ∙ (λ i. record { account = A; dp = (grind_zero (pending J T debits A.number) (eqb d A.number) ∙ sym sd.0) i; dq = sym sd.1 i; cp = (grind_zero (pending J T credits A.number) (eqb c A.number) ∙ sym sc.0) i; cq = sym sc.1 i })
+      ∙ (λ i. record { account = A; debits_pending = (grind_zero (pending J T debits A.number) (eqb d A.number) ∙ sym sd.0) i; debits_posted = sym sd.1 i; credits_pending = (grind_zero (pending J T credits A.number) (eqb c A.number) ∙ sym sc.0) i; credits_posted = sym sc.1 i })
     where
       grind_zero : (m : ℕ) (b : Bool) → m + at b 0 ≡ m
       grind_zero m true = omega arith

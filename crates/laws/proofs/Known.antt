@@ -6,7 +6,7 @@ use Rattle.meaning.specs.declared.content.Content.{Content}
 use Rattle.meaning.specs.declared.content.Content.TheVariants.{Account, Transfer, Reserve, Post, Void}
 use Rattle.meaning.specs.declared.opening.Opening.{Opening}
 use Rattle.meaning.specs.Basics.{at}
-use Rattle.meaning.specs.Given.{Journal, accounts, reservations, the_reservation, Side, debits, credits, pick, through, post_in, movements, highest}
+use Rattle.meaning.specs.Given.{Journal, accounts, reservations, the_reservation, Side, debits, credits, pick, through, with_post, movements, highest}
 use Rattle.meaning.specs.Rules.{Policy, number_refused, refused}
 use Rattle.laws.specs.Steps.{Reads}
 use Rattle.laws.proofs.Finds.{Distinct, find_all, find_none, find_by}
@@ -58,7 +58,7 @@ module _ (policy : Policy) (J : Journal) (n : ℕ) (l : Bool) (t : ℕ) where
   known_more (Post q z) K e =
       let p = post_open policy J t z (the_reservation J q) (both_none (number_refused (highest J) n) _ e).1 in
       let w = find_all key q (λ R. Pair (accounts J) R.debit R.credit) (reservations J) p.0 K.of_reservations p.1 in
-      record { of_reservations = K.of_reservations; of_movements = subst (λ o. All (λ M. Pair (accounts J) M.debit M.credit) (post_in o z (movements J))) (sym p.1) (w, K.of_movements); apart = K.apart }
+      record { of_reservations = K.of_reservations; of_movements = subst (λ o. All (λ M. Pair (accounts J) M.debit M.credit) (with_post o z (movements J))) (sym p.1) (w, K.of_movements); apart = K.apart }
   known_more (Void q) K e = record { of_reservations = K.of_reservations; of_movements = K.of_movements; apart = K.apart }
 
 pub known : (policy : Policy) (J : Journal) → Reads policy J → Known J

@@ -4,7 +4,7 @@ use Rattle.meaning.specs.declared.content.Content.{Content}
 use Rattle.meaning.specs.declared.content.Content.TheVariants.{Account, Transfer, Reserve, Post, Void}
 use Rattle.meaning.specs.declared.fate.Fate.TheVariants.{Live}
 use Rattle.meaning.specs.Basics.{at}
-use Rattle.meaning.specs.Given.{Journal, Reserved, reservations, the_reservation, fate, is_live, ended, Side, pick, through, pending, Movement, post_in, movements, posted, highest}
+use Rattle.meaning.specs.Given.{Journal, Reserved, reservations, the_reservation, fate, is_live, ended, Side, pick, through, pending, Movement, with_post, movements, posted, highest}
 use Rattle.meaning.specs.Rules.{Policy, number_refused, refused}
 use Rattle.laws.specs.Steps.{Reads, Step, falling, Stepwise}
 use Rattle.laws.proofs.Finds.{Distinct, sum_add, sum_less, find_key}
@@ -36,7 +36,7 @@ module _ (policy : Policy) (J : Journal) (T n : ℕ) (l : Bool) (t : ℕ) where
       λ s a. (grind arith, refl)
   step (Post r z) S e =
       let p = post_open policy J T z (the_reservation J r) (both_none (number_refused (highest J) n) _ e).1 in
-      (p.0, record { found = p.1; live = p.2 }, p.3, λ s a. (pending_post J T s a n l t r p.0 S.distinct p.1 p.2 z, ap (λ o. through (λ (M : Movement). M.debit) (λ M. M.credit) (λ M. M.amount) (post_in o z (movements J)) s a) p.1 ∙ omega arith))
+      (p.0, record { found = p.1; live = p.2 }, p.3, λ s a. (pending_post J T s a n l t r p.0 S.distinct p.1 p.2 z, ap (λ o. through (λ (M : Movement). M.debit) (λ M. M.credit) (λ M. M.amount) (with_post o z (movements J)) s a) p.1 ∙ omega arith))
   step (Void r) S e =
       let p = void_open policy J T (the_reservation J r) (both_none (number_refused (highest J) n) _ e).1 in
       (p.0, record { found = p.1; live = p.2 }, λ s a. (pending_void J T s a n l t r p.0 S.distinct p.1 p.2, refl))

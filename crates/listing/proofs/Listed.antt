@@ -8,8 +8,9 @@ use Rattle.laws.proofs.Finds.{find_by}
 use Rattle.meaning.specs.declared.opening.Opening.{Opening}
 use Rattle.meaning.specs.Basics.{at, sum_of, in_order}
 use Rattle.meaning.specs.Given.{Journal, accounts}
-use Rattle.meaning.specs.Listing.{earlier, fields, account_line, sum_line, ends, lines, listing}
-use Rattle.meaning.specs.Questions.{Standing, standing}
+use Rattle.meaning.specs.Listing.{earlier, fields, account_line, sum_line, last_of_ledger, lines, listing}
+use Rattle.meaning.specs.declared.standing.Standing.{Standing}
+use Rattle.meaning.specs.Questions.{standing}
 use Rattle.meaning.specs.Rules.{Policy}
 use Rattle.ordered.specs.Keyed.{line_of}
 use Rattle.ordered.specs.Orders.{line_before}
@@ -44,11 +45,11 @@ module _ (k : Books) (J : Journal) (T : ℕ) where
   shown_lines sums (A ∷ As) h =
       let one : bytes_if (row_asked k A.number) ≡ account_line J T A = ap bytes_if h.0 ∙ account_line_lem J T A in
       let rest = shown_lines sums As h.1 in
-      let end : ends_in A.ledger (map line_of As) ≡ ends A.ledger As = same_end As in
+      let end : ends_in A.ledger (map line_of As) ≡ last_of_ledger A.ledger As = same_end As in
       let total = sums A.ledger in
       cc
     where
-      same_end : (Bs : List Opening) → ends_in A.ledger (map line_of Bs) ≡ ends A.ledger Bs
+      same_end : (Bs : List Opening) → ends_in A.ledger (map line_of Bs) ≡ last_of_ledger A.ledger Bs
       same_end [] = refl
       same_end (B ∷ Bs) = refl
 
@@ -64,10 +65,10 @@ module _ (k : Books) (J : Journal) (T : ℕ) where
         let As = in_order earlier (accounts J) in
         sum-bytes L (sums_of k L) _ _ _ _ _
         (one_sum (λ s. s.accounts) (λ a. 1) (λ a s. refl) refl (All-weaker _ _ (λ A h. omega arith) As low))
-        (one_sum (λ s. s.debits_pending) (λ a. a.dp) (λ a s. refl) refl (All-weaker _ _ (λ A h. h.dp) As low))
-        (one_sum (λ s. s.debits_posted) (λ a. a.dq) (λ a s. refl) refl (All-weaker _ _ (λ A h. h.dq) As low))
-        (one_sum (λ s. s.credits_pending) (λ a. a.cp) (λ a s. refl) refl (All-weaker _ _ (λ A h. h.cp) As low))
-        (one_sum (λ s. s.credits_posted) (λ a. a.cq) (λ a s. refl) refl (All-weaker _ _ (λ A h. h.cq) As low))
+        (one_sum (λ s. s.debits_pending) (λ a. a.debits_pending) (λ a s. refl) refl (All-weaker _ _ (λ A h. h.debits_pending) As low))
+        (one_sum (λ s. s.debits_posted) (λ a. a.debits_posted) (λ a s. refl) refl (All-weaker _ _ (λ A h. h.debits_posted) As low))
+        (one_sum (λ s. s.credits_pending) (λ a. a.credits_pending) (λ a s. refl) refl (All-weaker _ _ (λ A h. h.credits_pending) As low))
+        (one_sum (λ s. s.credits_posted) (λ a. a.credits_posted) (λ a s. refl) refl (All-weaker _ _ (λ A h. h.credits_posted) As low))
 
 pub listed : (policy : Policy) (b : Balances) (J : Journal) (T : ℕ) → Reads policy J → books_of b ≡ image_of J T → keys_bytes (books_of b) (books_of b).lines ≡ listing J T
 listed policy b J T reads e =

@@ -2,7 +2,7 @@
 use Rattle.std.specs.Prelude.{ℕ, Bool, true, cond, not, List, [], ◌∷◌, ◌++◌, Some, None, Option, ◌==◌}
 use Rattle.std.specs.Int.{w64, to_be_bytes}
 use Rattle.meaning.specs.Listing.{line_bytes}
-use Rattle.meaning.specs.Questions.{Standing}
+use Rattle.meaning.specs.declared.standing.Standing.{Standing}
 use Rattle.ordered.specs.declared.line.Line.{Line}
 use Rattle.balances.specs.Books.{Books, row_asked}
 use Rattle.listing.specs.declared.sums.Sums.{Sums}
@@ -12,7 +12,7 @@ use Rattle.listing.specs.Sums.{sums_of}
 -- as `7 MILL 2 0 250 0 900`
 unfoldable pub account_bytes : Standing → List ℕ
 account_bytes s =
-    line_bytes s.account.ledger (letters_in (to_be_bytes w64 s.account.label)) (s.account.number ∷ s.dp ∷ s.dq ∷ s.cp ∷ s.cq ∷ [])
+    line_bytes s.account.ledger (letters_in (to_be_bytes w64 s.account.label)) (s.account.number ∷ s.debits_pending ∷ s.debits_posted ∷ s.credits_pending ∷ s.credits_posted ∷ [])
 
 -- as `7 = 3 0 1150 0 1150`; 61 is the equals sign
 unfoldable pub sum_bytes : ℕ → Sums → List ℕ

@@ -11,9 +11,10 @@ use Rattle.meaning.specs.declared.reservation.Reservation.{Reservation}
 use Rattle.meaning.specs.Given.{Journal}
 use Rattle.meaning.specs.Rules.{Policy, opening_refused, opening_writes}
 use Rattle.meaning.specs.Batches.{Answer, Outcome, batch, batch_refused}
-use Rattle.meaning.specs.Moves.{lapsed, next_deadline, move_refused}
+use Rattle.meaning.specs.Moves.{lapse_list, next_deadline, move_refused}
 use Rattle.meaning.specs.Reading.{reading, stopped_refused}
-use Rattle.meaning.specs.Questions.{Standing, account_asked, reservation_asked}
+use Rattle.meaning.specs.declared.standing.Standing.{Standing}
+use Rattle.meaning.specs.Questions.{account_asked, reservation_asked}
 use Rattle.meaning.specs.Listing.{listing, report_refused}
 
 -- a value, unless something is refused
@@ -31,8 +32,8 @@ abbrev pub over : {X : Type 0} → List X → List X → List X
 over new old = new ++ drop (length new) old
 
 -- what a move answers: how many lapse, and the earliest deadline that is left, or 0
-abbrev pub moved : Journal → (T t : ℕ) → Moved
-moved J T t = record { lapsed = length (lapsed J T t); next_deadline = next_deadline J t }
+abbrev pub move_answer : Journal → (T t : ℕ) → Moved
+move_answer J T t = record { lapsed = length (lapse_list J T t); next_deadline = next_deadline J t }
 
 pub record State : Type 0 where
   pub journal : Journal
@@ -72,7 +73,7 @@ module _ (policy : Policy) (s : State) where
   moves_not t ls = option_or unread (move_refused s.journal s.moment t (length ls))
 
   abbrev pub move_lapses : ℕ → List ℕ → List ℕ
-  move_lapses t ls = unless (moves_not t ls) (over (lapsed s.journal s.moment t) ls) ls
+  move_lapses t ls = unless (moves_not t ls) (over (lapse_list s.journal s.moment t) ls) ls
 
   abbrev pub moved_to : ℕ → List ℕ → ℕ
   moved_to t ls = unless (moves_not t ls) t s.moment

@@ -1,5 +1,5 @@
 -- The listing as bytes: a line for each account, by ledger, label and number, and a sum line after each ledger.
-use Rattle.std.specs.Prelude.{ℕ, Bool, true, cond, not, ◌&&◌, ◌||◌, List, [], ◌∷◌, ◌++◌, length, decimal, Option, ◌==◌, nat_lt}
+use Rattle.std.specs.Prelude.{ℕ, Bool, true, cond, not, ◌&&◌, ◌||◌, List, [], ◌∷◌, ◌++◌, length, decimal, flat_map, Option, ◌==◌, nat_lt}
 use Rattle.std.specs.List.{filter}
 use Rattle.std.specs.Int.{w64, to_be_bytes}
 use Rattle.meaning.specs.declared.opening.Opening.{Opening}
@@ -15,8 +15,7 @@ earlier A B =
 
 -- a space and a number, for each of the numbers
 abbrev pub fields : List ℕ → List ℕ
-fields [] = []
-fields (n ∷ ns) = 32 ∷ (decimal n ++ fields ns)
+fields ns = flat_map (λ n. 32 ∷ decimal n) ns
 
 -- the letters of a label, without its filling
 abbrev pub spelled : ℕ → List ℕ
@@ -37,13 +36,13 @@ sum_line J T L =
     line_bytes L (61 ∷ []) (of_ledger J L (λ a. 1) ∷ of_ledger J L (pending J T debits) ∷ of_ledger J L (posted J debits) ∷ of_ledger J L (pending J T credits) ∷ of_ledger J L (posted J credits) ∷ [])
 
 -- no account of the ledger comes next
-abbrev pub ends : ℕ → List Opening → Bool
-ends L [] = true
-ends L (A ∷ As) = not (A.ledger == L)
+abbrev pub last_of_ledger : ℕ → List Opening → Bool
+last_of_ledger L [] = true
+last_of_ledger L (A ∷ As) = not (A.ledger == L)
 
 abbrev pub lines : Journal → ℕ → List Opening → List ℕ
 lines J T [] = []
-lines J T (A ∷ As) = account_line J T A ++ (cond (ends A.ledger As) (sum_line J T A.ledger) [] ++ lines J T As)
+lines J T (A ∷ As) = account_line J T A ++ (cond (last_of_ledger A.ledger As) (sum_line J T A.ledger) [] ++ lines J T As)
 
 abbrev pub listing : Journal → ℕ → List ℕ
 listing J T = lines J T (in_order earlier (accounts J))

@@ -20,8 +20,8 @@ abbrev pub lapsing : Journal → (T t : ℕ) → List Reserved
 lapsing J T t = filter (λ R. nat_le R.until t) (awaiting J T)
 
 -- their numbers, in the order of the lapse list
-abbrev pub lapsed : Journal → (T t : ℕ) → List ℕ
-lapsed J T t = map (λ (R : Reserved). R.number) (lapsing J T t)
+abbrev pub lapse_list : Journal → (T t : ℕ) → List ℕ
+lapse_list J T t = map (λ (R : Reserved). R.number) (lapsing J T t)
 
 abbrev pub first_deadline : List Reserved → ℕ
 first_deadline [] = 0
@@ -40,4 +40,4 @@ refused_with T t places falling = first_of
     ∷ [])
 
 abbrev pub move_refused : Journal → (T t places : ℕ) → Option Refusal
-move_refused J T t places = refused_with T t places (length (lapsed J T t))
+move_refused J T t places = refused_with T t places (length (lapse_list J T t))

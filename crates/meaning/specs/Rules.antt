@@ -17,7 +17,8 @@ use Rattle.meaning.specs.Limits.{most_accounts, most_reservations}
 use Rattle.meaning.specs.Sound.{top, fits}
 use Rattle.meaning.specs.Basics.{first_of}
 use Rattle.meaning.specs.Given.{Journal, Reserved, accounts, reservations, the_account, the_reservation, fate, highest}
-use Rattle.meaning.specs.Questions.{Standing, standing}
+use Rattle.meaning.specs.declared.standing.Standing.{Standing}
+use Rattle.meaning.specs.Questions.{standing}
 
 -- what a policy admits: a class, a limit, and the totals DP, DQ, CP, CQ
 abbrev pub Policy : Type 0
@@ -25,7 +26,7 @@ Policy = (class limit dp dq cp cq : ℕ) → Bool
 
 -- the policy's word on an account as it stands
 abbrev pub admits_standing : Policy → Standing → Bool
-admits_standing policy s = policy s.account.class s.account.limit s.dp s.dq s.cp s.cq
+admits_standing policy s = policy s.account.class s.account.limit s.debits_pending s.debits_posted s.credits_pending s.credits_posted
 
 -- Opening an account. The journal is full where its spare is 0.
 
@@ -82,8 +83,8 @@ abbrev pub pair_checks : ℕ → (D C : Standing) → List (Bool × Refusal)
 pair_checks z D C =
     (((D.account.number == C.account.number), SameAccount)
     ∷ (not (D.account.ledger == C.account.ledger), LedgersDiffer)
-    ∷ (not (fits D.dp D.dq z), TopPassed)
-    ∷ (not (fits C.cp C.cq z), TopPassed)
+    ∷ (not (fits D.debits_pending D.debits_posted z), TopPassed)
+    ∷ (not (fits C.credits_pending C.credits_posted z), TopPassed)
     ∷ [])
 
 -- the policy's word on both, as they would stand
@@ -97,7 +98,7 @@ policy_checks policy D C =
 abbrev pub between_checks : Policy → (p q : ℕ) → (D C : Standing) → List (Bool × Refusal)
 between_checks policy p q D C =
     pair_checks (p + q) D C
-    ++ policy_checks policy (record D { dp = D.dp + p; dq = D.dq + q }) (record C { cp = C.cp + p; cq = C.cq + q })
+    ++ policy_checks policy (record D { debits_pending = D.debits_pending + p; debits_posted = D.debits_posted + q }) (record C { credits_pending = C.credits_pending + p; credits_posted = C.credits_posted + q })
 
 module _ (policy : Policy) (J : Journal) (T : ℕ) where
   -- of accounts that J may not have

@@ -1,16 +1,17 @@
 -- What falls due by a moment: the front of the queue, and the numbers that are written.
 use Rattle.std.proofs.Common.{◌≡◌, ℕ, suc, ◌+◌, ◌≤◌, Bool, true, false, cond, leb, List, [], ◌∷◌, map, length, take, Some, sym, refl, ap, ◌∙◌, add-one, arith}
 use Rattle.std.specs.List.{AllByRecursion as All, filter}
+use Rattle.std.specs.Option.{unwrap_or}
 use Rattle.ordered.specs.declared.due.Due.{Due}
 use Rattle.ordered.specs.Orders.{due_before}
 use Rattle.ordered.specs.Rows.{without, Ordered}
 use Rattle.ordered.proofs.Lawfully.{due_lawful}
 use Rattle.balances.specs.Books.{Books}
 use Rattle.balances.specs.Legs.{lapsed}
-use Rattle.balances.specs.Lapses.{next_due, lapsed_if}
+use Rattle.balances.specs.Lapses.{next_due, lapsed_if, number_in}
 use Rattle.balances.specs.Queues.{due_count}
 use Rattle.image.proofs.Waiting.{none_due}
-use Rattle.moves.specs.Turns.{number_or, numbered}
+use Rattle.moves.specs.Turns.{filled_in}
 
 abbrev pub number_of : Due → ℕ
 number_of d = d.number
@@ -37,28 +38,28 @@ leaves d ds = let e = due_lawful.irreflexive d in rw e
 
 -- at most as many places as are due take the numbers of the front
 abbrev Front : ℕ → Books → List ℕ → Type 0
-Front t k ns = length ns ≤ due_count t k.queue → numbered t k ns ≡ map number_of (take (length ns) k.queue)
+Front t k ns = length ns ≤ due_count t k.queue → filled_in t k ns ≡ map number_of (take (length ns) k.queue)
 
-one_numbered : (t : ℕ) (k : Books) (n : ℕ) (ns : List ℕ) (d : Due) (ds : List Due) → k.queue ≡ d ∷ ds → is_due t d ≡ true → length ns ≤ due_count t ds → Front t (lapsed d k) ns → numbered t k (n ∷ ns) ≡ map number_of (take (suc (length ns)) k.queue)
-one_numbered t k n ns d ds e b le ih =
+one_filled : (t : ℕ) (k : Books) (n : ℕ) (ns : List ℕ) (d : Due) (ds : List Due) → k.queue ≡ d ∷ ds → is_due t d ≡ true → length ns ≤ due_count t ds → Front t (lapsed d k) ns → filled_in t k (n ∷ ns) ≡ map number_of (take (suc (length ns)) k.queue)
+one_filled t k n ns d ds e b le ih =
     let is : next_due t k ≡ Some d = rw (e, b) in
     let rest : without due_before d k.queue ≡ ds = rw e (leaves d ds) in
     let r = ih (rw rest le) in
-    let step : numbered t k (n ∷ ns) ≡ d.number ∷ numbered t (lapsed d k) ns = ap (λ o. number_or n o ∷ numbered t (lapsed_if o k) ns) is in
+    let step : filled_in t k (n ∷ ns) ≡ d.number ∷ filled_in t (lapsed d k) ns = ap (λ o. unwrap_or (number_in o) n ∷ filled_in t (lapsed_if o k) ns) is in
     step
     ∙ (ap (λ xs. d.number ∷ xs) (r ∙ ap (λ q. map number_of (take (length ns) q)) rest)
     ∙ sym (ap (λ q. map number_of (take (suc (length ns)) q)) e))
 
-pub front_numbered : (t : ℕ) (k : Books) (ns : List ℕ) → Front t k ns
-front_numbered t k [] h = refl
-front_numbered t k (n ∷ ns) h = go k.queue refl h (λ x. front_numbered t x ns)
+pub front_filled : (t : ℕ) (k : Books) (ns : List ℕ) → Front t k ns
+front_filled t k [] h = refl
+front_filled t k (n ∷ ns) h = go k.queue refl h (λ x. front_filled t x ns)
   where
-    go : (q : List Due) → k.queue ≡ q → suc (length ns) ≤ due_count t q → ((x : Books) → Front t x ns) → numbered t k (n ∷ ns) ≡ map number_of (take (suc (length ns)) k.queue)
+    go : (q : List Due) → k.queue ≡ q → suc (length ns) ≤ due_count t q → ((x : Books) → Front t x ns) → filled_in t k (n ∷ ns) ≡ map number_of (take (suc (length ns)) k.queue)
     go [] e le ih = absurd (omega arith)
     go (d ∷ ds) e le ih = by (is_due t d) refl le
       where
-        by : (b : Bool) → is_due t d ≡ b → suc (length ns) ≤ cond b (due_count t ds + 1) 0 → numbered t k (n ∷ ns) ≡ map number_of (take (suc (length ns)) k.queue)
-        by true f le = one_numbered t k n ns d ds e f (omega arith) (ih (lapsed d k))
+        by : (b : Bool) → is_due t d ≡ b → suc (length ns) ≤ cond b (due_count t ds + 1) 0 → filled_in t k (n ∷ ns) ≡ map number_of (take (suc (length ns)) k.queue)
+        by true f le = one_filled t k n ns d ds e f (omega arith) (ih (lapsed d k))
         by false f le = absurd (omega arith)
 
 -- no more are due than there are

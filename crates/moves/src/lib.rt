@@ -10,7 +10,7 @@ ghost use Rattle.balances.specs.Books.{books_of};
 ghost use Rattle.laws.specs.Steps.{Reads};
 ghost use Rattle.image.specs.Image.{image_of, lapses as lapses_of};
 ghost use Rattle.moves.specs.MovesOn.{MovesOn};
-ghost use Rattle.moves.specs.Turns.{numbered};
+ghost use Rattle.moves.specs.Turns.{filled_in};
 
 use balances::Balances;
 use meaning::limits::LAST_MOMENT;
@@ -46,7 +46,7 @@ fn check_move(from: u64, to: u64, places: usize, due: usize) -> Result<(), Refus
 // Lets one reservation lapse for each place, and writes its number there.
 fn lapse_into(balances: &mut Balances, moment: u64, places: &mut [u32])
     ensures books { books_of balances.new ≡ lapses_of (length places.old) moment (books_of balances.old) }
-    ensures numbers { places.new ≡ numbered moment (books_of balances.old) places.old }
+    ensures numbers { places.new ≡ filled_in moment (books_of balances.old) places.old }
 {
     for place in places.iter_mut() {
         if let Some(number) = balances.lapse_next(moment) {

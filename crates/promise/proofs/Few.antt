@@ -5,8 +5,8 @@ use Rattle.std.proofs.lemmas.Bool.{le-ltb}
 use Rattle.std.specs.List.{filter}
 use Rattle.meaning.specs.declared.content.Content.{Content}
 use Rattle.meaning.specs.declared.content.Content.TheVariants.{Account, Transfer, Reserve, Post, Void}
-use Rattle.meaning.specs.Given.{Journal, Reserved, reservations, reservation_in, fate, is_live}
-use Rattle.meaning.specs.Moves.{sooner, awaiting, lapsed, move_refused}
+use Rattle.meaning.specs.Given.{Journal, Reserved, reservations, with_reservation, fate, is_live}
+use Rattle.meaning.specs.Moves.{sooner, awaiting, lapse_list, move_refused}
 use Rattle.meaning.specs.Rules.{Policy, movement_refused, room_refused, refused}
 use Rattle.meaning.specs.Sound.{last}
 use Rattle.laws.specs.Steps.{Reads}
@@ -16,7 +16,7 @@ use Rattle.image.proofs.Opened.{length-in_order}
 room_found : (J : Journal) → room_refused (length (reservations J)) ≡ None → length (reservations J) < 256
 room_found J e = grind arith
 
-few_more : (policy : Policy) (J : Journal) (T n : ℕ) (k : Content) → length (reservations J) ≤ 256 → refused policy J T n k ≡ None → length (reservation_in n k (reservations J)) ≤ 256
+few_more : (policy : Policy) (J : Journal) (T n : ℕ) (k : Content) → length (reservations J) ≤ 256 → refused policy J T n k ≡ None → length (with_reservation n k (reservations J)) ≤ 256
 few_more policy J T n (Account l c m b) h e = h
 few_more policy J T n (Transfer d c z) h e = h
 few_more policy J T n (Reserve d c z u) h e =
@@ -37,7 +37,7 @@ those_fewer p (x ∷ xs) = go (p x) (those_fewer p xs)
     go true h = omega arith
     go false h = omega arith
 
-few_lapses : (J : Journal) (T t : ℕ) → length (lapsed J T t) ≤ length (reservations J)
+few_lapses : (J : Journal) (T t : ℕ) → length (lapse_list J T t) ≤ length (reservations J)
 few_lapses J T t =
     let waits : Reserved → Bool = λ R. is_live (fate J T R) && ltb 0 R.until in
     let a = length-map (filter (λ R. leb R.until t) (awaiting J T)) (λ (R : Reserved). R.number) in
@@ -53,5 +53,5 @@ arrives policy J h T t le bound =
     let lapse = few_lapses J T t in
     let a = le-ltb last t bound in
     let b = le-ltb t T le in
-    let c = le-ltb 256 (length (lapsed J T t)) (omega arith) in
+    let c = le-ltb 256 (length (lapse_list J T t)) (omega arith) in
     rw (a, b, c)

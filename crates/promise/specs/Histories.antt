@@ -4,7 +4,7 @@ use Rattle.meaning.specs.declared.answers.Moved.{Moved}
 use Rattle.meaning.specs.declared.order.Order.{Order}
 use Rattle.meaning.specs.declared.record.Record.{Record}
 use Rattle.meaning.specs.declared.refusal.Refusal.{Refusal}
-use Rattle.meaning.specs.Calls.{State, answered, moved, moves_not, moved_to}
+use Rattle.meaning.specs.Calls.{State, answered, move_answer, moves_not, moved_to}
 use Rattle.meaning.specs.Given.{latest}
 use Rattle.meaning.specs.Moves.{move_refused}
 use Rattle.meaning.specs.Reading.{reading as reading_of}
@@ -37,7 +37,7 @@ places = replicate 256 0
 
 -- a move from s to t, under a policy: what it answers, and what it comes to
 abbrev pub arrival : Policy → State → ℕ → Result Moved Refusal
-arrival admits s t = answered (moves_not admits s t places) (moved s.journal s.moment t)
+arrival admits s t = answered (moves_not admits s t places) (move_answer s.journal s.moment t)
 
 abbrev pub arrived : Policy → State → ℕ → State
 arrived admits s t = after s [] (moved_to admits s t places)
@@ -46,7 +46,7 @@ arrived admits s t = after s [] (moved_to admits s t places)
 -- the newest entry
 pub record Meets (from s : State) (r : Result Moved Refusal) : Type 0 where
   pub there : s ≡ from
-  pub arrival : r ≡ Ok (moved from.journal (latest from.journal) from.moment)
+  pub arrival : r ≡ Ok (move_answer from.journal (latest from.journal) from.moment)
 
 module _ {J P K Q : Type 0} (j : journal.Ghosts J) (p : policy.Ghosts P) (k : journal.Ghosts K) (q : policy.Ghosts Q) where
   -- the second book against the first, after the same further calls: from is what the first had come to before them

@@ -80,7 +80,7 @@ stands_at_zero policy J T h A free =
     let K = known policy J h in
     let P : (s : Side) → pending J T s A.number ≡ 0 = λ s. through_none (accounts J) _ _ _ A.number free s _ K.of_reservations in
     let Q : (s : Side) → posted J s A.number ≡ 0 = λ s. through_none (accounts J) _ _ _ A.number free s _ K.of_movements in
-    sym (λ i. record { account = A; dp = P debits i; dq = Q debits i; cp = P credits i; cq = Q credits i })
+    sym (λ i. record { account = A; debits_pending = P debits i; debits_posted = Q debits i; credits_pending = P credits i; credits_posted = Q credits i })
 
 -- what a taken opening writes keeps the rules of an entry
 pub opening_sound : (policy : Policy) (J : Journal) (T : ℕ) (full : Bool) (A : Opening) → Narrowed A → T ≤ last → opening_refused policy J full A ≡ None → sound (opening_writes T A) ≡ true

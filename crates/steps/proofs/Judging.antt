@@ -7,7 +7,8 @@ use Rattle.meaning.specs.declared.refusal.Refusal.TheVariants.{SameAccount, Ledg
 use Rattle.meaning.specs.Basics.{at, first_of}
 use Rattle.meaning.specs.declared.content.Content.TheVariants.{Post, Void}
 use Rattle.meaning.specs.Given.{Journal, Reserved, reservations, the_account, the_reservation, highest}
-use Rattle.meaning.specs.Questions.{Standing, standing, with_fate}
+use Rattle.meaning.specs.declared.standing.Standing.{Standing}
+use Rattle.meaning.specs.Questions.{standing, with_fate}
 use Rattle.meaning.specs.Rows.{debited, credited}
 use Rattle.meaning.specs.Rules.{Policy, number_refused, amount_refused, policy_checks, between_checks, parties_refused, movement_refused, room_refused, post_refused, void_refused, refused}
 use Rattle.meaning.specs.Sound.{fits}
@@ -41,15 +42,15 @@ module _ (policy : Policy) (J : Journal) (T p q : ℕ) where
   between D C =
       let d = standing J T D in
       let c = standing J T C in
-      let f = fits d.dp d.dq (p + q) in
-      let g = fits c.cp c.cq (p + q) in
-      let x = policy D.class D.limit (d.dp + p) (d.dq + q) d.cp d.cq in
-      let y = policy C.class C.limit c.dp c.dq (c.cp + p) (c.cq + q) in
+      let f = fits d.debits_pending d.debits_posted (p + q) in
+      let g = fits c.credits_pending c.credits_posted (p + q) in
+      let x = policy D.class D.limit (d.debits_pending + p) (d.debits_posted + q) d.credits_pending d.credits_posted in
+      let y = policy C.class C.limit c.debits_pending c.debits_posted (c.credits_pending + p) (c.credits_posted + q) in
       let a = eqb D.number C.number in
       let b = not (eqb D.ledger C.ledger) in
       in_turn_lem a b f g x _ y _
-      (λ e. ap (λ v. policy D.class D.limit (d.dp + at v p) (d.dq + at v q) d.cp d.cq) e)
-      (λ e. ap (λ v. policy C.class C.limit c.dp c.dq (c.cp + at v p) (c.cq + at v q)) e)
+      (λ e. ap (λ v. policy D.class D.limit (d.debits_pending + at v p) (d.debits_posted + at v q) d.credits_pending d.credits_posted) e)
+      (λ e. ap (λ v. policy C.class C.limit c.debits_pending c.debits_posted (c.credits_pending + at v p) (c.credits_posted + at v q)) e)
 
   pub parties_judged_lem : (D C : Option Opening)
       → option_or (parties_judged (p + q) (option_map (standing J T) D) (option_map (standing J T) C)) (asked_if policy (option_map (debited p q) (option_map (standing J T) D)) (option_map (credited p q) (option_map (standing J T) C)))

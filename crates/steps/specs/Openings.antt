@@ -4,7 +4,7 @@ use Rattle.std.specs.Result.{result_err}
 use Rattle.meaning.specs.declared.opening.Opening.{Opening}
 use Rattle.meaning.specs.declared.refusal.Refusal.{Refusal}
 use Rattle.meaning.specs.Given.{Journal}
-use Rattle.meaning.specs.Questions.{Standing}
+use Rattle.meaning.specs.declared.standing.Standing.{Standing}
 use Rattle.meaning.specs.Rules.{Policy, opening_refused, opening_writes}
 use Rattle.meaning.specs.Sound.{last, sound}
 use Rattle.balances.specs.declared.balances.Balances.{Balances}
@@ -13,7 +13,7 @@ use Rattle.image.specs.Image.{image_of}
 
 -- an account to which nothing has happened
 abbrev pub at_zero : Opening → Standing
-at_zero A = record { account = A; dp = 0; dq = 0; cp = 0; cq = 0 }
+at_zero A = record { account = A; debits_pending = 0; debits_posted = 0; credits_pending = 0; credits_posted = 0 }
 
 -- what the types say of an opening's numbers
 pub record Narrowed (A : Opening) : Type 0 where

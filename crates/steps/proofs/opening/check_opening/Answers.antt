@@ -67,6 +67,6 @@ returns g c =
           let count = opened_count policy J T shown.reads (books_of c.args.balances.now) shown.tables in
           c.in_ok-check_zeros.ensures.answer
           ∙ sym (zeros_last policy J _ A (c.in_ok-check_place.ensures.answer policy J T shown) (le-ltb top A.limit c.if-opening-gt-TOP.false) label.0 (lt-leb 64 _ (omega (arith, c.opened.ensures))) (ne_eqb c.args.spare 0 c.if-spare-eq0.false));
-      account = λ i. record { account = record { number = A.number; ledger = A.ledger; class = A.class; limit = A.limit; label = label.1 i }; dp = zero.debits.0 i; dq = zero.debits.1 i; cp = zero.credits.0 i; cq = zero.credits.1 i };
+      account = λ i. record { account = record { number = A.number; ledger = A.ledger; class = A.class; limit = A.limit; label = label.1 i }; debits_pending = zero.debits.0 i; debits_posted = zero.debits.1 i; credits_pending = zero.credits.0 i; credits_posted = zero.credits.1 i };
       narrow = record { number = c.in_ok-check_place.ensures.narrow.0; ledger = c.in_ok-check_place.ensures.narrow.1; class = c.in_ok-check_zeros.ensures.narrow };
     }
