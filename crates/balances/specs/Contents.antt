@@ -1,13 +1,13 @@
 -- What the tables say: the accounts and reservations in the order in which they came, the highest number, the
 -- queue of deadlines and the keys of the listing's lines.
-use Rattle.std.specs.Prelude.{ℕ, ◌≤◌, cond, List, [], ◌∷◌, ◌++◌, map, length, Option, nat_lt, slice_index_or, slice_set, slice_get}
+use Rattle.std.specs.Prelude.{ℕ, ◌≤◌, cond, List, [], ◌∷◌, ◌++◌, length, Option, nat_lt, slice_index_or, slice_set, slice_get, ◌==◌}
+use Rattle.std.specs.List.{position_or_len}
 use Rattle.meaning.specs.declared.reservation.Reservation.{Reservation}
 use Rattle.meaning.specs.declared.fate.Fate.TheVariants.{Live}
 use Rattle.meaning.specs.Limits.{most_accounts}
 use Rattle.meaning.specs.declared.standing.Standing.{Standing}
 use Rattle.ordered.specs.declared.due.Due.{Due}
 use Rattle.ordered.specs.declared.line.Line.{Line}
-use Rattle.balances.specs.Places.{place_of}
 use Rattle.balances.specs.Queues.{listed}
 
 pub record Books : Type 0 where
@@ -33,10 +33,10 @@ no_reservation = record { number = 0; debit = 0; credit = 0; amount = 0; deadlin
 
 -- the place of an account and of a reservation, or how many there are
 abbrev pub row_place : Books → ℕ → ℕ
-row_place k n = place_of n (map (λ (s : Standing). s.account.number) k.rows)
+row_place k n = position_or_len (λ (s : Standing). s.account.number == n) k.rows
 
 abbrev pub held_place : Books → ℕ → ℕ
-held_place k n = place_of n (map (λ (r : Reservation). r.number) k.held)
+held_place k n = position_or_len (λ (r : Reservation). r.number == n) k.held
 
 abbrev pub row_asked : Books → ℕ → Option Standing
 row_asked k n = slice_get k.rows (row_place k n)

@@ -1,5 +1,6 @@
 -- The keys of the queue and of the listing's lines.
-use Rattle.std.specs.Prelude.{ℕ, ◌+◌, cond, List, [], ◌∷◌, length, Option, nat_le, nat_lt, slice_get}
+use Rattle.std.specs.Prelude.{ℕ, cond, List, length, Option, nat_le, nat_lt, slice_get}
+use Rattle.std.specs.List.{prefix_len}
 use Rattle.ordered.specs.declared.due.Due.{Due}
 use Rattle.meaning.specs.Limits.{most_accounts, most_reservations}
 use Rattle.meaning.specs.Basics.{put}
@@ -19,8 +20,7 @@ listed k ks = cond (nat_lt (length ks) most_accounts) (put line_before k ks) ks
 
 -- how many at the front of the queue have a deadline that has come
 abbrev pub due_count : ℕ → List Due → ℕ
-due_count t [] = 0
-due_count t (d ∷ ds) = cond (nat_le d.deadline t) (due_count t ds + 1) 0
+due_count t ds = prefix_len (λ (d : Due). nat_le d.deadline t) ds
 
 -- the key at a place
 abbrev pub line_at : ℕ → List Line → Option Line

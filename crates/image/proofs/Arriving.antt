@@ -104,8 +104,8 @@ module _ (J : Journal) (dist : Distinct key (reservations J)) (apart : Distinct 
         let w = (subst (All (Waits (waiting_by F) (reservations J))) e (queued (waiting_by F) (reservations J) dist)).0 in
         after_one w.0 w.1 w.2 w.3 ih le
 
-    pub counts : due_count t (image_by J F).queue ≡ due_count t ds + 1
-    counts = ap (due_count t) e ∙ ap (λ c. cond c (due_count t ds + 1) 0) now
+    pub counts : due_count t (image_by J F).queue ≡ 1 + due_count t ds
+    counts = ap (due_count t) e ∙ ap (λ c. cond c (1 + due_count t ds) 0) now
 
   cases : (n : ℕ) (F : Reserved → Fate) → All (Bound F) (reservations J) → ((d : Due) (ds : List Due) → (image_by J F).queue ≡ d ∷ ds → leb d.deadline t ≡ true → Arrives n F) → (q : List Due) → (image_by J F).queue ≡ q → Arrives n F
   cases n F b more [] e = stop n F b [] e refl tt

@@ -7,12 +7,11 @@ use Rattle.meaning.specs.Sound.{top, fits}
 use Rattle.meaning.specs.declared.standing.Standing.{Standing}
 use Rattle.meaning.specs.Rows.{debited, credited}
 use Rattle.balances.specs.Books.{no_row}
-use Rattle.balances.specs.Places.{place_of}
 use Rattle.laws.proofs.Finds.{Distinct}
 use Rattle.laws.proofs.Known.{akey}
 use Rattle.image.specs.Image.{oldest}
 use Rattle.image.proofs.Asked.{skey}
-use Rattle.image.proofs.Oldest.{changed_at, changed_if, changed_there, map-oldest, distinct_oldest}
+use Rattle.image.proofs.Oldest.{place, place_by_keys, changed_at, changed_if, changed_there, map-oldest, distinct_oldest}
 
 -- the number of a row does not change with it
 kept_key : (n : ℕ) (g : Standing → Standing) → ((s : Standing) → skey (g s) ≡ skey s) → (s : Standing) → skey (changed_if skey n no_row g s) ≡ skey s
@@ -40,10 +39,10 @@ module _ (S : Opening → Standing) (same : (A : Opening) → skey (S A) ≡ ake
   same_first : (A : Opening) → skey (first A) ≡ akey A
   same_first A = kept_key d f keep (S A) ∙ same A
 
-  pub two_changes : set (changed_at skey d no_row f (oldest S As)) (place_of c (map skey (oldest S As))) (g (get_or (changed_at skey d no_row f (oldest S As)) (place_of c (map skey (oldest S As))) no_row)) ≡ oldest (λ A. changed_if skey c no_row g (first A)) As
+  pub two_changes : set (changed_at skey d no_row f (oldest S As)) (place skey c (oldest S As)) (g (get_or (changed_at skey d no_row f (oldest S As)) (place skey c (oldest S As)) no_row)) ≡ oldest (λ A. changed_if skey c no_row g (first A)) As
   two_changes =
-      ap (λ rs. set rs (place_of c (map skey (oldest S As))) (g (get_or rs (place_of c (map skey (oldest S As))) no_row))) (one_change S same As apart d f)
-      ∙ (ap (λ ns. set (oldest first As) (place_of c ns) (g (get_or (oldest first As) (place_of c ns) no_row))) (keys S same As apart ∙ sym (keys first same_first As apart))
+      ap (λ rs. set rs (place skey c (oldest S As)) (g (get_or rs (place skey c (oldest S As)) no_row))) (one_change S same As apart d f)
+      ∙ (ap (λ i. set (oldest first As) i (g (get_or (oldest first As) i no_row))) (place_by_keys skey skey c (oldest S As) (oldest first As) (keys S same As apart ∙ sym (keys first same_first As apart)))
       ∙ one_change first same_first As apart c g)
 
 -- p more pending and q more posted from account d to account c, where both sides take it

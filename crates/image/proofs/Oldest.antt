@@ -1,19 +1,32 @@
 -- Lists turned round, and the place of a key in them.
-use Rattle.std.proofs.Common.{◌≡◌, ℕ, ◌+◌, Bool, true, false, cond, eqb, List, [], ◌∷◌, ◌++◌, map, length, get_or, set, Some, None, Option, sym, refl, ap, ◌∙◌, add-one, arith}
-use Rattle.std.specs.List.{AllByRecursion as All}
+use Rattle.std.proofs.Common.{◌≡◌, ℕ, ◌+◌, Bool, true, false, cond, eqb, List, [], ◌∷◌, ◌++◌, map, length, get_or, set, Some, None, Option, sym, refl, ap, ◌∙◌, suc, not, arith}
+use Rattle.std.specs.List.{AllByRecursion as All, prefix_len, position_or_len}
+use Rattle.std.proofs.lemmas.List.Folds.{find_at}
 use Rattle.std.proofs.lemmas.List.{map-append, length-append}
 use Rattle.std.specs.Option.{option_map, option_or}
 use Rattle.std.proofs.ByRecursion.{All-weaker}
 use Rattle.std.proofs.lemmas.Bool.{ne_eqb, eqb-true}
 use Rattle.std.specs.Prelude.{slice_get}
-use Rattle.balances.specs.Places.{place_of}
+use Rattle.balances.proofs.Placing.{prefix_len-map}
 use Rattle.image.specs.Image.{oldest}
 use Rattle.laws.proofs.Finds.{Distinct, find_by}
+
+-- the place of key n
+abbrev pub place : {Y : Type 0} → (Y → ℕ) → ℕ → List Y → ℕ
+place key n ys = position_or_len (λ y. eqb (key y) n) ys
+
+pub one_more : (n : ℕ) → 1 + n ≡ suc n
+one_more n = omega arith
+
+-- lists with the same keys have it at the same place
+pub place_by_keys : {Y Z : Type 0} (f : Y → ℕ) (g : Z → ℕ) (n : ℕ) (ys : List Y) (zs : List Z) → map f ys ≡ map g zs → place f n ys ≡ place g n zs
+place_by_keys f g n ys zs e =
+    prefix_len-map f (λ m. not (eqb m n)) ys ∙ ap (prefix_len (λ m. not (eqb m n))) e ∙ sym (prefix_len-map g (λ m. not (eqb m n)) zs)
 
 -- a change of what stands at the place of key n
 module _ {Y : Type 0} (key : Y → ℕ) (n : ℕ) (d : Y) (g : Y → Y) where
   abbrev pub changed_at : List Y → List Y
-  changed_at ys = set ys (place_of n (map key ys)) (g (get_or ys (place_of n (map key ys)) d))
+  changed_at ys = set ys (place key n ys) (g (get_or ys (place key n ys) d))
 
   abbrev pub changed_if : Y → Y
   changed_if y = cond (eqb (key y) n) (g y) y
@@ -30,12 +43,12 @@ module _ {Y : Type 0} (key : Y → ℕ) (n : ℕ) (d : Y) (g : Y → Y) where
   changed_there [] h = refl
   changed_there (y ∷ ys) h = go (eqb (key y) n) refl (changed_there ys h.1)
     where
-      go : (b : Bool) → eqb (key y) n ≡ b → changed_at ys ≡ map changed_if ys → set (y ∷ ys) (cond b 0 (place_of n (map key ys) + 1)) (g (get_or (y ∷ ys) (cond b 0 (place_of n (map key ys) + 1)) d)) ≡ cond b (g y) y ∷ map changed_if ys
+      go : (b : Bool) → eqb (key y) n ≡ b → changed_at ys ≡ map changed_if ys → set (y ∷ ys) (cond (not b) (1 + place key n ys) 0) (g (get_or (y ∷ ys) (cond (not b) (1 + place key n ys) 0) d)) ≡ cond b (g y) y ∷ map changed_if ys
       go true e ih =
           let is : key y ≡ n = eqb-true (key y) n e in
           let others = All-weaker (λ z. key z ≡ key y → ⊥) (λ z. key z ≡ n → ⊥) (λ z ne v. ne (v ∙ sym is)) ys h.0 in
           ap (λ zs. g y ∷ zs) (sym (unchanged ys others))
-      go false e ih = ap (λ m. set (y ∷ ys) m (g (get_or (y ∷ ys) m d))) (add-one (place_of n (map key ys))) ∙ ap (λ zs. y ∷ zs) ih
+      go false e ih = ap (λ m. set (y ∷ ys) m (g (get_or (y ∷ ys) m d))) (one_more (place key n ys)) ∙ ap (λ zs. y ∷ zs) ih
 
 or_none : {Y : Type 0} (o : Option Y) → option_or o None ≡ o
 or_none None = refl
@@ -43,13 +56,8 @@ or_none (Some y) = refl
 
 -- what stands at the place of n is the first whose key is n
 module _ {Y : Type 0} (key : Y → ℕ) (n : ℕ) where
-  pub asked_found : (ys : List Y) → slice_get ys (place_of n (map key ys)) ≡ find_by key n ys
-  asked_found [] = refl
-  asked_found (y ∷ ys) = go (eqb (key y) n) (asked_found ys)
-    where
-      go : (b : Bool) → slice_get ys (place_of n (map key ys)) ≡ find_by key n ys → slice_get (y ∷ ys) (cond b 0 (place_of n (map key ys) + 1)) ≡ cond b (Some y) (find_by key n ys)
-      go true ih = refl
-      go false ih = ap (slice_get (y ∷ ys)) (add-one (place_of n (map key ys))) ∙ ih
+  pub asked_found : (ys : List Y) → slice_get ys (place key n ys) ≡ find_by key n ys
+  asked_found ys = sym (find_at (λ y. eqb (key y) n) ys)
 
   -- and the last, put behind others
   pub find_push : (ys : List Y) (y : Y) → find_by key n (ys ++ (y ∷ [])) ≡ option_or (find_by key n ys) (cond (eqb (key y) n) (Some y) None)

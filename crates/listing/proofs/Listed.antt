@@ -1,7 +1,7 @@
 -- The listing over the tables is the listing of the journal and the moment that they are the image of.
 use Rattle.std.proofs.Common.{◌≡◌, ℕ, ◌^◌, ◌<◌, ◌≤◌, eqb, List, [], ◌∷◌, ◌++◌, map, length, Some, decimal, sym, refl, ap, ◌∙◌, arith}
 use Rattle.std.specs.List.{AllByRecursion as All}
-use Rattle.std.specs.Option.{option_map}
+use Rattle.std.specs.Option.{option_map, option_map_or}
 use Rattle.std.proofs.ByRecursion.{All-weaker}
 use Rattle.std.proofs.lemmas.List.{length-map}
 use Rattle.laws.proofs.Finds.{find_by}
@@ -24,15 +24,10 @@ use Rattle.image.specs.Image.{image_of}
 use Rattle.image.proofs.Asked.{asks}
 use Rattle.image.proofs.Waiting.{all_found, all_in_order}
 use Rattle.listing.specs.declared.sums.Sums.{Sums}
-use Rattle.listing.specs.Letters.{letters_in}
 use Rattle.listing.specs.Sums.{no_sums, plus, plus_keys, sums_of}
-use Rattle.listing.specs.Lines.{account_bytes, sum_bytes, bytes_if, ends_in, keys_bytes}
+use Rattle.listing.specs.Lines.{sum_bytes, key_bytes, ends_in, keys_bytes}
 use Rattle.listing.proofs.Totals.{Small, small}
 use Rattle.listing.proofs.Summing.{Shown, sum-in_order, sum_exact}
-
-account_line_lem : (J : Journal) (T : ℕ) (A : Opening) → account_bytes (standing J T A) ≡ account_line J T A
-unfolding account_bytes letters_in
-account_line_lem J T A = refl
 
 sum-bytes : (L : ℕ) (s : Sums) (n dp dq cp cq : ℕ) → s.accounts ≡ n → s.debits_pending ≡ dp → s.debits_posted ≡ dq → s.credits_pending ≡ cp → s.credits_posted ≡ cq → sum_bytes L s ≡ decimal L ++ (32 ∷ (61 ∷ (fields (n ∷ dp ∷ dq ∷ cp ∷ cq ∷ []) ++ (10 ∷ []))))
 unfolding sum_bytes
@@ -43,7 +38,7 @@ module _ (k : Books) (J : Journal) (T : ℕ) where
   shown_lines : ((L : ℕ) → sum_bytes L (sums_of k L) ≡ sum_line J T L) → (As : List Opening) → All (Shown k J T) As → keys_bytes k (map line_of As) ≡ lines J T As
   shown_lines sums [] h = refl
   shown_lines sums (A ∷ As) h =
-      let one : bytes_if (row_asked k A.number) ≡ account_line J T A = ap bytes_if h.0 ∙ account_line_lem J T A in
+      let one : key_bytes k (line_of A) ≡ account_line (standing J T A) = ap (λ o. option_map_or account_line o []) h.0 in
       let rest = shown_lines sums As h.1 in
       let end : ends_in A.ledger (map line_of As) ≡ last_of_ledger A.ledger As = same_end As in
       let total = sums A.ledger in

@@ -2,8 +2,7 @@
 use Rattle.std.proofs.Common.{◌≡◌, ℕ, ◌+◌, ◌/◌, ◌%◌, ◌^◌, ◌<◌, ◌≤◌, Bool, true, false, cond, not, eqb, List, [], ◌∷◌, ◌++◌, length, get_or, drop, decimal, sym, refl, ap, ◌∙◌, arith}
 use Rattle.std.proofs.lemmas.Fmt.{decimal_digit, decimal_step}
 use Rattle.std.proofs.lemmas.List.{at_drop_more, at_drop_all}
-use Rattle.meaning.specs.Listing.{fields}
-use Rattle.listing.specs.Letters.{letters_in}
+use Rattle.meaning.specs.Listing.{fields, letters_in}
 use Rattle.listing.specs.declared.page.Page.{Page}
 use Rattle.listing.specs.Pages.{written}
 

@@ -2,9 +2,10 @@
 ghost use Rattle.std.specs.Prelude.{◌≡◌, ◌-◌, ◌^◌, min, length, take};
 ghost use Rattle.meaning.specs.Rows.{standing_of};
 ghost use Rattle.meaning.specs.Calls.{over};
+ghost use Rattle.meaning.specs.Listing.{account_line};
 ghost use Rattle.balances.specs.Books.{books_of};
 ghost use Rattle.listing.specs.Pages.{written};
-ghost use Rattle.listing.specs.Lines.{account_bytes, sum_bytes, key_bytes, keys_bytes};
+ghost use Rattle.listing.specs.Lines.{sum_bytes, key_bytes, keys_bytes};
 
 use crate::keys::Keys;
 use crate::page::Page;
@@ -15,9 +16,9 @@ use ordered::Line;
 
 impl Page<'_> {
     // `7 MILL 2 0 250 0 900`
-    #[tactic(auto, unfolding(crate::specs::Lines::account_bytes))]
+    #[tactic(auto, unfolding(meaning::specs::Listing::account_line))]
     fn account(&mut self, account: &Account)
-        ensures { self.new ≡ written (account_bytes (standing_of account.now)) self.old }
+        ensures { self.new ≡ written (account_line (standing_of account.now)) self.old }
     {
         let debits = &account.totals.debits;
         let credits = &account.totals.credits;
@@ -35,7 +36,7 @@ impl Page<'_> {
     }
 
     // `7 = 3 0 1150 0 1150`
-    #[tactic(auto, unfolding(crate::specs::Lines::sum_bytes, crate::specs::Letters::letters_in))]
+    #[tactic(auto, unfolding(crate::specs::Lines::sum_bytes, meaning::specs::Listing::letters_in))]
     fn sums(&mut self, ledger: u16, sums: &Sums)
         ensures { self.new ≡ written (sum_bytes ledger sums.now) self.old }
     {

@@ -1,7 +1,6 @@
 // A text, written byte by byte into a buffer as far as it has room.
 ghost use Rattle.std.specs.Prelude.{◌≡◌, [], ◌∷◌, decimal};
-ghost use Rattle.meaning.specs.Listing.{fields, line_bytes};
-ghost use Rattle.listing.specs.Letters.{letters_in};
+ghost use Rattle.meaning.specs.Listing.{fields, line_bytes, letters_in};
 ghost use Rattle.listing.specs.Pages.{empty, written};
 
 // What fills a label to eight bytes.

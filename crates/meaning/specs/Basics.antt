@@ -6,6 +6,7 @@ abbrev pub at : Bool → ℕ → ℕ
 at b n = cond b n 0
 
 module _ {X : Type 0} where
+  -- the sum of f, term by term from the front; std's `sum_by` is a fold
   abbrev pub sum_of : (X → ℕ) → List X → ℕ
   sum_of f [] = 0
   sum_of f (x ∷ xs) = f x + sum_of f xs

@@ -5,8 +5,10 @@ use Rattle.std.specs.Int.{w64, to_be_bytes}
 use Rattle.meaning.specs.declared.opening.Opening.{Opening}
 use Rattle.meaning.specs.declared.refusal.Refusal.{Refusal}
 use Rattle.meaning.specs.declared.refusal.Refusal.TheVariants.{BufferTooShort}
+use Rattle.meaning.specs.declared.standing.Standing.{Standing}
 use Rattle.meaning.specs.Basics.{in_order, first_of}
 use Rattle.meaning.specs.Given.{Journal, accounts, debits, credits, pending, posted, of_ledger}
+use Rattle.meaning.specs.Questions.{standing}
 
 -- by ledger, then label, then number
 abbrev pub earlier : Opening → Opening → Bool
@@ -17,18 +19,18 @@ earlier A B =
 abbrev pub fields : List ℕ → List ℕ
 fields ns = flat_map (λ n. 32 ∷ decimal n) ns
 
--- the letters of a label, without its filling
-abbrev pub spelled : ℕ → List ℕ
-spelled label = filter (λ b. not (b == 32)) (to_be_bytes w64 label)
+-- the bytes of a label that are not filling
+unfoldable pub letters_in : List ℕ → List ℕ
+letters_in bs = filter (λ b. not (b == 32)) bs
 
 -- a ledger, a name, numbers and the end of the line
 abbrev pub line_bytes : ℕ → (name numbers : List ℕ) → List ℕ
 line_bytes L name ns = decimal L ++ (32 ∷ (name ++ (fields ns ++ (10 ∷ []))))
 
 -- as `7 MILL 2 0 250 0 900`
-abbrev pub account_line : Journal → ℕ → Opening → List ℕ
-account_line J T A =
-    line_bytes A.ledger (spelled A.label) (A.number ∷ pending J T debits A.number ∷ posted J debits A.number ∷ pending J T credits A.number ∷ posted J credits A.number ∷ [])
+unfoldable pub account_line : Standing → List ℕ
+account_line s =
+    line_bytes s.account.ledger (letters_in (to_be_bytes w64 s.account.label)) (s.account.number ∷ s.debits_pending ∷ s.debits_posted ∷ s.credits_pending ∷ s.credits_posted ∷ [])
 
 -- as `7 = 3 0 1150 0 1150`; 61 is the equals sign
 abbrev pub sum_line : Journal → ℕ → ℕ → List ℕ
@@ -42,7 +44,7 @@ last_of_ledger L (A ∷ As) = not (A.ledger == L)
 
 abbrev pub lines : Journal → ℕ → List Opening → List ℕ
 lines J T [] = []
-lines J T (A ∷ As) = account_line J T A ++ (cond (last_of_ledger A.ledger As) (sum_line J T A.ledger) [] ++ lines J T As)
+lines J T (A ∷ As) = account_line (standing J T A) ++ (cond (last_of_ledger A.ledger As) (sum_line J T A.ledger) [] ++ lines J T As)
 
 abbrev pub listing : Journal → ℕ → List ℕ
 listing J T = lines J T (in_order earlier (accounts J))

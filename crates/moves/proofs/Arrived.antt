@@ -33,9 +33,9 @@ number R = R.number
 abbrev falls : ℕ → Reserved → Bool
 falls t R = leb R.until t
 
-those_keys : (t : ℕ) (rs : List Reserved) → map number (filter (falls t) rs) ≡ map number_of (filter (is_due t) (map due_of rs))
-those_keys t [] = refl
-those_keys t (R ∷ rs) = by (falls t R) (those_keys t rs)
+filtered_keys : (t : ℕ) (rs : List Reserved) → map number (filter (falls t) rs) ≡ map number_of (filter (is_due t) (map due_of rs))
+filtered_keys t [] = refl
+filtered_keys t (R ∷ rs) = by (falls t R) (filtered_keys t rs)
   where
     by : (b : Bool) → map number (filter (falls t) rs) ≡ map number_of (filter (is_due t) (map due_of rs)) → map number (cond b (R ∷ filter (falls t) rs) (filter (falls t) rs)) ≡ map number_of (cond b (due_of R ∷ filter (is_due t) (map due_of rs)) (filter (is_due t) (map due_of rs)))
     by true r = ap (λ ns. R.number ∷ ns) r
@@ -51,7 +51,7 @@ next-deadline J t = ap (λ q. deadline_in (first q)) (sym (queue_of J t)) ∙ fi
 -- what falls due is the front of the queue
 lapsed_front : (J : Journal) (T t : ℕ) → lapse_list J T t ≡ map number_of (take (due_count t (image_of J T).queue) (image_of J T).queue)
 lapsed_front J T t =
-    those_keys t (awaiting J T)
+    filtered_keys t (awaiting J T)
     ∙ (ap (λ q. map number_of (filter (is_due t) q)) (queue_of J T)
     ∙ ap (map number_of) (due_front t (image_of J T).queue (in_order_ordered due_before due_lawful (map due_of (filter (waiting J T) (reservations J))))))
 

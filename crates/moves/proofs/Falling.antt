@@ -1,5 +1,5 @@
 -- What falls due by a moment: the front of the queue, and the numbers that are written.
-use Rattle.std.proofs.Common.{◌≡◌, ℕ, suc, ◌+◌, ◌≤◌, Bool, true, false, cond, leb, List, [], ◌∷◌, map, length, take, Some, sym, refl, ap, ◌∙◌, add-one, arith}
+use Rattle.std.proofs.Common.{◌≡◌, ℕ, suc, ◌+◌, ◌≤◌, Bool, true, false, cond, leb, List, [], ◌∷◌, map, length, take, Some, sym, refl, ap, ◌∙◌, arith}
 use Rattle.std.specs.List.{AllByRecursion as All, filter}
 use Rattle.std.specs.Option.{unwrap_or}
 use Rattle.ordered.specs.declared.due.Due.{Due}
@@ -10,6 +10,7 @@ use Rattle.balances.specs.Books.{Books}
 use Rattle.balances.specs.Legs.{lapsed}
 use Rattle.balances.specs.Lapses.{next_due, lapsed_if, number_in}
 use Rattle.balances.specs.Queues.{due_count}
+use Rattle.image.proofs.Oldest.{one_more}
 use Rattle.image.proofs.Waiting.{none_due}
 use Rattle.moves.specs.Turns.{filled_in}
 
@@ -19,18 +20,18 @@ number_of d = d.number
 abbrev pub is_due : ℕ → Due → Bool
 is_due t d = leb d.deadline t
 
-those_none : {X : Type 0} (p : X → Bool) (xs : List X) → All (λ x. p x ≡ false) xs → filter p xs ≡ []
-those_none p [] h = refl
-those_none p (x ∷ xs) h = rw h.0 (those_none p xs h.1)
+filter_none : {X : Type 0} (p : X → Bool) (xs : List X) → All (λ x. p x ≡ false) xs → filter p xs ≡ []
+filter_none p [] h = refl
+filter_none p (x ∷ xs) h = rw h.0 (filter_none p xs h.1)
 
 -- in a row in order, those that are due stand in front
 pub due_front : (t : ℕ) (ds : List Due) → Ordered due_before ds → filter (is_due t) ds ≡ take (due_count t ds) ds
 due_front t [] h = refl
 due_front t (d ∷ ds) h = go (is_due t d) refl (due_front t ds h.1)
   where
-    go : (b : Bool) → is_due t d ≡ b → filter (is_due t) ds ≡ take (due_count t ds) ds → cond b (d ∷ filter (is_due t) ds) (filter (is_due t) ds) ≡ take (cond b (due_count t ds + 1) 0) (d ∷ ds)
-    go true e r = rw (add-one (due_count t ds)) (ap (λ xs. d ∷ xs) r)
-    go false e r = those_none (is_due t) ds (none_due t d ds h e).1
+    go : (b : Bool) → is_due t d ≡ b → filter (is_due t) ds ≡ take (due_count t ds) ds → cond b (d ∷ filter (is_due t) ds) (filter (is_due t) ds) ≡ take (cond b (1 + due_count t ds) 0) (d ∷ ds)
+    go true e r = rw (one_more (due_count t ds)) (ap (λ xs. d ∷ xs) r)
+    go false e r = filter_none (is_due t) ds (none_due t d ds h e).1
 
 -- a key that lapses leaves the front
 leaves : (d : Due) (ds : List Due) → without due_before d (d ∷ ds) ≡ ds
@@ -58,7 +59,7 @@ front_filled t k (n ∷ ns) h = go k.queue refl h (λ x. front_filled t x ns)
     go [] e le ih = absurd (omega arith)
     go (d ∷ ds) e le ih = by (is_due t d) refl le
       where
-        by : (b : Bool) → is_due t d ≡ b → suc (length ns) ≤ cond b (due_count t ds + 1) 0 → filled_in t k (n ∷ ns) ≡ map number_of (take (suc (length ns)) k.queue)
+        by : (b : Bool) → is_due t d ≡ b → suc (length ns) ≤ cond b (1 + due_count t ds) 0 → filled_in t k (n ∷ ns) ≡ map number_of (take (suc (length ns)) k.queue)
         by true f le = one_filled t k n ns d ds e f (omega arith) (ih (lapsed d k))
         by false f le = absurd (omega arith)
 
@@ -67,6 +68,6 @@ pub due_within : (t : ℕ) (ds : List Due) → due_count t ds ≤ length ds
 due_within t [] = omega arith
 due_within t (d ∷ ds) = by (is_due t d) (due_within t ds)
   where
-    by : (b : Bool) → due_count t ds ≤ length ds → cond b (due_count t ds + 1) 0 ≤ suc (length ds)
+    by : (b : Bool) → due_count t ds ≤ length ds → cond b (1 + due_count t ds) 0 ≤ suc (length ds)
     by true h = omega arith
     by false h = omega arith

@@ -19,10 +19,10 @@ module _ {K : Type 0} (before : K → K → Bool) where
       let r = length-put k xs in
       elim (before k x) as (λ b. length (cond b (k ∷ (x ∷ xs)) (x ∷ put before k xs)) ≡ length (x ∷ xs) + 1) [ true ↦ omega arith | false ↦ omega (arith, r) ]
 
-  pub all_those : (P : K → Type 0) (p : K → Bool) (xs : List K) → All P xs → All P (filter p xs)
-  all_those P p [] h = tt
-  all_those P p (x ∷ xs) h =
-      let r = all_those P p xs h.1 in
+  pub all_filtered : (P : K → Type 0) (p : K → Bool) (xs : List K) → All P xs → All P (filter p xs)
+  all_filtered P p [] h = tt
+  all_filtered P p (x ∷ xs) h =
+      let r = all_filtered P p xs h.1 in
       elim (p x) as (λ b. All P (cond b (x ∷ filter p xs) (filter p xs))) [ true ↦ (h.0, r) | false ↦ r ]
 
   module _ (law : Lawful before) where

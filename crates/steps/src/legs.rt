@@ -5,6 +5,7 @@ ghost use Rattle.meaning.specs.declared.content.Content.TheVariants.{Transfer, R
 ghost use Rattle.meaning.specs.declared.fate.Fate.TheVariants.{Live};
 ghost use Rattle.meaning.specs.Basics.{first_of};
 ghost use Rattle.meaning.specs.Given.{Journal};
+ghost use Rattle.meaning.specs.Limits.{most_legs};
 ghost use Rattle.meaning.specs.Rows.{standing_of};
 ghost use Rattle.meaning.specs.Rules.{Policy as Admission, policy_checks, movement_refused, deadline as deadline_of, content_of};
 ghost use Rattle.meaning.specs.Sound.{last, is_until};
@@ -64,7 +65,7 @@ fn take_transfer<P: Policy>(
     amount: u64,
 ) -> Result<(), Refusal>
     ensures goes_on { GoesOn chain.old (is_ok result) chain.new }
-    ensures leg { (J : Journal) (T : ℕ) → Shown (P.Policy.admits policy.now) J T chain.old.balances.now → legs_of chain.old.balances.now < 16 → Stepped (P.Policy.admits policy.now) J T number (Transfer debit credit amount) result chain.new.balances.now }
+    ensures leg { (J : Journal) (T : ℕ) → Shown (P.Policy.admits policy.now) J T chain.old.balances.now → legs_of chain.old.balances.now < most_legs → Stepped (P.Policy.admits policy.now) J T number (Transfer debit credit amount) result chain.new.balances.now }
 {
     let movement = Movement {
         number,
@@ -83,7 +84,7 @@ fn take_reserve<P: Policy>(
     held: Reservation,
 ) -> Result<(), Refusal>
     ensures goes_on { GoesOn chain.old (is_ok result) chain.new }
-    ensures leg { (J : Journal) (T : ℕ) → Shown (P.Policy.admits policy.now) J T chain.old.balances.now → legs_of chain.old.balances.now < 16 → held.fate ≡ Live → is_until T held.deadline ≡ true → Stepped (P.Policy.admits policy.now) J T held.number (Reserve held.debit held.credit held.amount held.deadline) result chain.new.balances.now }
+    ensures leg { (J : Journal) (T : ℕ) → Shown (P.Policy.admits policy.now) J T chain.old.balances.now → legs_of chain.old.balances.now < most_legs → held.fate ≡ Live → is_until T held.deadline ≡ true → Stepped (P.Policy.admits policy.now) J T held.number (Reserve held.debit held.credit held.amount held.deadline) result chain.new.balances.now }
 {
     let movement = Movement {
         number: held.number,
@@ -103,14 +104,14 @@ fn take_post(
     amount: u64,
 ) -> Result<(), Refusal>
     ensures goes_on { GoesOn chain.old (is_ok result) chain.new }
-    ensures leg { (policy : Admission) (J : Journal) (T : ℕ) → Shown policy J T chain.old.balances.now → legs_of chain.old.balances.now < 16 → Stepped policy J T number (Post reservation amount) result chain.new.balances.now }
+    ensures leg { (policy : Admission) (J : Journal) (T : ℕ) → Shown policy J T chain.old.balances.now → legs_of chain.old.balances.now < most_legs → Stepped policy J T number (Post reservation amount) result chain.new.balances.now }
 {
     chain.post(number, reservation, amount)
 }
 
 fn take_void(chain: &mut Chain<'_>, number: u32, reservation: u32) -> Result<(), Refusal>
     ensures goes_on { GoesOn chain.old (is_ok result) chain.new }
-    ensures leg { (policy : Admission) (J : Journal) (T : ℕ) → Shown policy J T chain.old.balances.now → legs_of chain.old.balances.now < 16 → Stepped policy J T number (Void reservation) result chain.new.balances.now }
+    ensures leg { (policy : Admission) (J : Journal) (T : ℕ) → Shown policy J T chain.old.balances.now → legs_of chain.old.balances.now < most_legs → Stepped policy J T number (Void reservation) result chain.new.balances.now }
 {
     chain.void(number, reservation)
 }
@@ -123,7 +124,7 @@ pub fn run_leg<P: Policy>(
     order: &Order,
 ) -> Result<(), Refusal>
     ensures goes_on { GoesOn chain.old (is_ok result) chain.new }
-    ensures leg { (J : Journal) → Shown (P.Policy.admits policy.now) J moment chain.old.balances.now → legs_of chain.old.balances.now < 16 → moment ≤ last → Stepped (P.Policy.admits policy.now) J moment order.now.number (content_of moment order.now.action) result chain.new.balances.now }
+    ensures leg { (J : Journal) → Shown (P.Policy.admits policy.now) J moment chain.old.balances.now → legs_of chain.old.balances.now < most_legs → moment ≤ last → Stepped (P.Policy.admits policy.now) J moment order.now.number (content_of moment order.now.action) result chain.new.balances.now }
 {
     let number = order.number;
     match order.action {

@@ -1,5 +1,5 @@
 use Rattle.std.proofs.Common.{◌≡◌, drop}
-use Rattle.listing.specs.Letters.{letters_in}
+use Rattle.meaning.specs.Listing.{letters_in}
 use Rattle.listing.specs.Pages.{written}
 use Rattle.listing.proofs.page.Page.letters.Given as goal
 

@@ -1,6 +1,5 @@
 use Rattle.std.proofs.Common.{[], ◌∷◌, decimal, ap, ◌∙◌}
-use Rattle.meaning.specs.Listing.{fields}
-use Rattle.listing.specs.Letters.{letters_in}
+use Rattle.meaning.specs.Listing.{fields, letters_in}
 use Rattle.listing.specs.Pages.{written}
 use Rattle.listing.proofs.Writing.{five_pieces}
 use Rattle.listing.proofs.page.Page.line.Goals as goal
