@@ -3,9 +3,9 @@ use Rattle.std.specs.Prelude.{ℕ, ◌+◌, ◌-◌, ◌^◌, min, [], ◌∷◌
 use Rattle.std.specs.Option.{option_or}
 use Rattle.meaning.specs.declared.reservation.Reservation.{Reservation}
 use Rattle.meaning.specs.declared.refusal.Refusal.{Refusal}
-use Rattle.meaning.specs.declared.refusal.Refusal.TheVariants.{ChainTooLong, DebitUnknown, CreditUnknown, ReservationUnknown}
+use Rattle.meaning.specs.declared.refusal.Refusal.TheVariants.{ChainTooLong, ReservationUnknown}
 use Rattle.meaning.specs.Limits.{most_legs}
-use Rattle.meaning.specs.Rules.{number_refused, amount_refused, room_refused, fate_refused, part_refused, pair_checks}
+use Rattle.meaning.specs.Rules.{number_refused, amount_refused, room_refused, fate_refused, part_refused, pair_checks, parties_refused}
 use Rattle.meaning.specs.Basics.{first_of}
 use Rattle.meaning.specs.declared.standing.Standing.{Standing}
 use Rattle.balances.specs.Contents.{Books, row_asked, held_asked}
@@ -22,14 +22,9 @@ sum p q = min (p + q) (2 ^ 64 - 1)
 abbrev pub pair_judged : ℕ → Standing → Standing → Option Refusal
 pair_judged z D C = first_of (pair_checks z D C)
 
-abbrev pub parties_judged : ℕ → Option Standing → Option Standing → Option Refusal
-parties_judged z None C = Some DebitUnknown
-parties_judged z (Some D) None = Some CreditUnknown
-parties_judged z (Some D) (Some C) = pair_judged z D C
-
 -- a transfer or a reserve, before the policy is asked
 abbrev pub movement_judged : (number debit credit amount : ℕ) → Books → Option Refusal
-movement_judged n d c z k = option_or (number_judged n k) (option_or (amount_refused z) (parties_judged z (row_asked k d) (row_asked k c)))
+movement_judged n d c z k = option_or (number_judged n k) (option_or (amount_refused z) (parties_refused (pair_checks z) (row_asked k d) (row_asked k c)))
 
 abbrev pub room_judged : Books → Option Refusal
 room_judged k = room_refused (length k.held)

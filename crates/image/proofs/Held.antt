@@ -31,7 +31,7 @@ use Rattle.image.proofs.Asked.{skey}
 use Rattle.image.proofs.Moving.{two_changes, moved_row}
 use Rattle.image.proofs.Transferred.{all_of}
 
-length-filter-le : {X : Type 0} (p : X → Bool) (xs : List X) → length (filter p xs) ≤ length xs
+pub length-filter-le : {X : Type 0} (p : X → Bool) (xs : List X) → length (filter p xs) ≤ length xs
 length-filter-le p [] = omega arith
 length-filter-le p (x ∷ xs) = go (p x) (length-filter-le p xs)
   where

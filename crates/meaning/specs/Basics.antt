@@ -1,4 +1,4 @@
--- Words on lists that the definitions share: sums, look-ups and an order.
+-- Words on lists that the definitions share: sums, an order, and the first check that holds.
 use Rattle.std.specs.Prelude.{ℕ, ◌+◌, Bool, cond, List, [], ◌∷◌, Some, None, Option}
 
 -- n where the test holds, else 0

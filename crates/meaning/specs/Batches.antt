@@ -1,5 +1,6 @@
 -- Chains and batches: which answer each order gets, and which entries join the journal.
 use Rattle.std.specs.Prelude.{ℕ, ◌+◌, ◌-◌, Bool, false, cond, List, [], ◌∷◌, ◌++◌, map, length, replicate, Some, None, Ok, Err, Option, Result, nat_lt, slice_set}
+use Rattle.std.specs.Option.{option_map}
 use Rattle.meaning.specs.declared.order.Order.{Order}
 use Rattle.meaning.specs.declared.record.Record.{Record}
 use Rattle.meaning.specs.declared.refusal.Refusal.{Refusal}
@@ -32,8 +33,7 @@ unfinished (o ∷ (p ∷ os)) = unfinished (p ∷ os)
 
 -- the first refused leg; each leg sees the earlier ones
 abbrev pub later : Option Stop → Option Stop
-later None = None
-later (Some s) = Some (record { place = s.place + 1; refusal = s.refusal })
+later s = option_map (λ (x : Stop). record x { place = x.place + 1 }) s
 
 abbrev pub stop_if : Option Refusal → Option Stop → Option Stop
 stop_if (Some r) rest = Some (record { place = 0; refusal = r })

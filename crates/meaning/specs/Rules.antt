@@ -18,7 +18,7 @@ use Rattle.meaning.specs.Sound.{top, fits}
 use Rattle.meaning.specs.Basics.{first_of}
 use Rattle.meaning.specs.Given.{Journal, Reserved, accounts, reservations, the_account, the_reservation, fate, highest}
 use Rattle.meaning.specs.declared.standing.Standing.{Standing}
-use Rattle.meaning.specs.Questions.{standing}
+use Rattle.meaning.specs.Questions.{account_asked}
 
 -- what a policy admits: a class, a limit, and the totals DP, DQ, CP, CQ
 abbrev pub Policy : Type 0
@@ -76,7 +76,7 @@ fate_refused Lapsed = Some AlreadyLapsed
 abbrev pub part_refused : (z a : ℕ) → Option Refusal
 part_refused z a = first_of ((z == 0 || nat_lt a z, PostAmount) ∷ [])
 
--- Rules of a leg between a debit account D and a credit account C, which are known.
+-- Rules of a leg between a debit account D and a credit account C.
 
 -- z more between them, as they stand
 abbrev pub pair_checks : ℕ → (D C : Standing) → List (Bool × Refusal)
@@ -100,17 +100,17 @@ between_checks policy p q D C =
     pair_checks (p + q) D C
     ++ policy_checks policy (record D { debits_pending = D.debits_pending + p; debits_posted = D.debits_posted + q }) (record C { credits_pending = C.credits_pending + p; credits_posted = C.credits_posted + q })
 
-module _ (policy : Policy) (J : Journal) (T : ℕ) where
-  -- of accounts that J may not have
-  abbrev pub parties_refused : (p q : ℕ) → Option Opening → Option Opening → Option Refusal
-  parties_refused p q None C = Some DebitUnknown
-  parties_refused p q (Some D) None = Some CreditUnknown
-  parties_refused p q (Some D) (Some C) = first_of (between_checks policy p q (standing J T D) (standing J T C))
+-- what is checked of two accounts where both are known
+abbrev pub parties_refused : ((D C : Standing) → List (Bool × Refusal)) → Option Standing → Option Standing → Option Refusal
+parties_refused checks None C = Some DebitUnknown
+parties_refused checks (Some D) None = Some CreditUnknown
+parties_refused checks (Some D) (Some C) = first_of (checks D C)
 
+module _ (policy : Policy) (J : Journal) (T : ℕ) where
   -- p more pending and q more posted from account d to account c, by an entry with the number n
   abbrev pub movement_refused : (n d c p q : ℕ) → Option Refusal
   movement_refused n d c p q =
-      option_or (number_refused (highest J) n) (option_or (amount_refused (p + q)) (parties_refused p q (the_account J d) (the_account J c)))
+      option_or (number_refused (highest J) n) (option_or (amount_refused (p + q)) (parties_refused (between_checks policy p q) (account_asked J T d) (account_asked J T c)))
 
   abbrev pub post_refused : ℕ → Option Reserved → Option Refusal
   post_refused z None = Some ReservationUnknown

@@ -1,5 +1,5 @@
 -- A journal that reads has at most 256 reservations, so 256 places are enough for every move.
-use Rattle.std.proofs.Common.{◌≡◌, ℕ, ◌<◌, ◌≤◌, Bool, true, false, cond, ◌&&◌, ltb, leb, List, [], ◌∷◌, length, None, arith}
+use Rattle.std.proofs.Common.{◌≡◌, ℕ, ◌<◌, ◌≤◌, Bool, ◌&&◌, ltb, leb, [], ◌∷◌, length, None, arith}
 use Rattle.std.proofs.lemmas.List.{length-map}
 use Rattle.std.proofs.lemmas.Bool.{le-ltb}
 use Rattle.std.specs.List.{filter}
@@ -10,6 +10,7 @@ use Rattle.meaning.specs.Moves.{sooner, awaiting, lapse_list, move_refused}
 use Rattle.meaning.specs.Rules.{Policy, movement_refused, room_refused, refused}
 use Rattle.meaning.specs.Sound.{last}
 use Rattle.laws.specs.Steps.{Reads}
+use Rattle.image.proofs.Held.{length-filter-le}
 use Rattle.laws.proofs.Passes.{both_none, reads_prefix, reads_rules}
 use Rattle.image.proofs.Opened.{length-in_order}
 
@@ -29,21 +30,13 @@ pub few_reservations : (policy : Policy) (J : Journal) → Reads policy J → le
 few_reservations policy [] h = omega arith
 few_reservations policy (e ∷ J) h = few_more policy J e.moment e.number e.content (few_reservations policy J (reads_prefix policy e J h)) (reads_rules policy e J h)
 
-those_fewer : {X : Type 0} (p : X → Bool) (xs : List X) → length (filter p xs) ≤ length xs
-those_fewer p [] = omega arith
-those_fewer p (x ∷ xs) = go (p x) (those_fewer p xs)
-  where
-    go : (b : Bool) → length (filter p xs) ≤ length xs → length (cond b (x ∷ filter p xs) (filter p xs)) ≤ length (x ∷ xs)
-    go true h = omega arith
-    go false h = omega arith
-
 few_lapses : (J : Journal) (T t : ℕ) → length (lapse_list J T t) ≤ length (reservations J)
 few_lapses J T t =
     let waits : Reserved → Bool = λ R. is_live (fate J T R) && ltb 0 R.until in
     let a = length-map (filter (λ R. leb R.until t) (awaiting J T)) (λ (R : Reserved). R.number) in
-    let b = those_fewer (λ (R : Reserved). leb R.until t) (awaiting J T) in
+    let b = length-filter-le (λ (R : Reserved). leb R.until t) (awaiting J T) in
     let c = length-in_order sooner (filter waits (reservations J)) in
-    let d = those_fewer waits (reservations J) in
+    let d = length-filter-le waits (reservations J) in
     omega arith
 
 -- a move with 256 places is not refused, if it goes on and not past the last moment

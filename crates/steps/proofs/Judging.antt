@@ -8,12 +8,12 @@ use Rattle.meaning.specs.Basics.{at, first_of}
 use Rattle.meaning.specs.declared.content.Content.TheVariants.{Post, Void}
 use Rattle.meaning.specs.Given.{Journal, Reserved, reservations, the_account, the_reservation, highest}
 use Rattle.meaning.specs.declared.standing.Standing.{Standing}
-use Rattle.meaning.specs.Questions.{standing, with_fate}
+use Rattle.meaning.specs.Questions.{standing, with_fate, account_asked}
 use Rattle.meaning.specs.Rows.{debited, credited}
-use Rattle.meaning.specs.Rules.{Policy, number_refused, amount_refused, policy_checks, between_checks, parties_refused, movement_refused, room_refused, post_refused, void_refused, refused}
+use Rattle.meaning.specs.Rules.{Policy, number_refused, amount_refused, pair_checks, policy_checks, between_checks, parties_refused, movement_refused, room_refused, post_refused, void_refused, refused}
 use Rattle.meaning.specs.Sound.{fits}
 use Rattle.balances.specs.Books.{Books, row_asked, held_asked}
-use Rattle.balances.specs.Judged.{number_judged, pair_judged, parties_judged, movement_judged, room_judged, open_judged, part_judged, void_judged, post_judged}
+use Rattle.balances.specs.Judged.{number_judged, pair_judged, movement_judged, room_judged, open_judged, part_judged, void_judged, post_judged}
 use Rattle.laws.specs.Steps.{Reads}
 use Rattle.image.specs.Image.{image_of}
 use Rattle.image.proofs.Asked.{asks}
@@ -52,12 +52,12 @@ module _ (policy : Policy) (J : Journal) (T p q : ℕ) where
       (λ e. ap (λ v. policy D.class D.limit (d.debits_pending + at v p) (d.debits_posted + at v q) d.credits_pending d.credits_posted) e)
       (λ e. ap (λ v. policy C.class C.limit c.debits_pending c.debits_posted (c.credits_pending + at v p) (c.credits_posted + at v q)) e)
 
-  pub parties_judged_lem : (D C : Option Opening)
-      → option_or (parties_judged (p + q) (option_map (standing J T) D) (option_map (standing J T) C)) (asked_if policy (option_map (debited p q) (option_map (standing J T) D)) (option_map (credited p q) (option_map (standing J T) C)))
-      ≡ parties_refused policy J T p q D C
-  parties_judged_lem None C = refl
-  parties_judged_lem (Some D) None = refl
-  parties_judged_lem (Some D) (Some C) = between D C
+  pub parties_lem : (D C : Option Opening)
+      → option_or (parties_refused (pair_checks (p + q)) (option_map (standing J T) D) (option_map (standing J T) C)) (asked_if policy (option_map (debited p q) (option_map (standing J T) D)) (option_map (credited p q) (option_map (standing J T) C)))
+      ≡ parties_refused (between_checks policy p q) (option_map (standing J T) D) (option_map (standing J T) C)
+  parties_lem None C = refl
+  parties_lem (Some D) None = refl
+  parties_lem (Some D) (Some C) = between D C
 
 pub option_or-assoc : {X : Type 0} (x y z : Option X) → option_or (option_or x y) z ≡ option_or x (option_or y z)
 option_or-assoc None y z = refl
@@ -85,12 +85,12 @@ module _ (policy : Policy) (J : Journal) (T : ℕ) (h : Reads policy J) (k : Boo
   movement_judged_lem n d c p q z e =
       let ask : Option Standing → Option Standing → Option Refusal = λ D C. asked_if policy (option_map (debited p q) D) (option_map (credited p q) C) in
       ap (λ m. option_or (movement_judged n d c m k) (ask (row_asked k d) (row_asked k c))) e
-      ∙ (option_or-assoc (number_judged n k) (option_or (amount_refused (p + q)) (parties_judged (p + q) (row_asked k d) (row_asked k c))) (ask (row_asked k d) (row_asked k c))
-      ∙ (ap (option_or (number_judged n k)) (option_or-assoc (amount_refused (p + q)) (parties_judged (p + q) (row_asked k d) (row_asked k c)) (ask (row_asked k d) (row_asked k c)))
-      ∙ (ap (λ D. option_or (number_judged n k) (option_or (amount_refused (p + q)) (option_or (parties_judged (p + q) D (row_asked k c)) (ask D (row_asked k c))))) (account_asked_lem d)
-      ∙ (ap (λ C. option_or (number_judged n k) (option_or (amount_refused (p + q)) (option_or (parties_judged (p + q) (option_map (standing J T) (the_account J d)) C) (ask (option_map (standing J T) (the_account J d)) C)))) (account_asked_lem c)
-      ∙ (ap (λ r. option_or (number_judged n k) (option_or (amount_refused (p + q)) r)) (parties_judged_lem policy J T p q (the_account J d) (the_account J c))
-      ∙ ap (λ r. option_or r (option_or (amount_refused (p + q)) (parties_refused policy J T p q (the_account J d) (the_account J c)))) (number_judged_lem n))))))
+      ∙ (option_or-assoc (number_judged n k) (option_or (amount_refused (p + q)) (parties_refused (pair_checks (p + q)) (row_asked k d) (row_asked k c))) (ask (row_asked k d) (row_asked k c))
+      ∙ (ap (option_or (number_judged n k)) (option_or-assoc (amount_refused (p + q)) (parties_refused (pair_checks (p + q)) (row_asked k d) (row_asked k c)) (ask (row_asked k d) (row_asked k c)))
+      ∙ (ap (λ D. option_or (number_judged n k) (option_or (amount_refused (p + q)) (option_or (parties_refused (pair_checks (p + q)) D (row_asked k c)) (ask D (row_asked k c))))) (account_asked_lem d)
+      ∙ (ap (λ C. option_or (number_judged n k) (option_or (amount_refused (p + q)) (option_or (parties_refused (pair_checks (p + q)) (option_map (standing J T) (the_account J d)) C) (ask (option_map (standing J T) (the_account J d)) C)))) (account_asked_lem c)
+      ∙ (ap (λ r. option_or (number_judged n k) (option_or (amount_refused (p + q)) r)) (parties_lem policy J T p q (the_account J d) (the_account J c))
+      ∙ ap (λ r. option_or r (option_or (amount_refused (p + q)) (parties_refused (between_checks policy p q) (account_asked J T d) (account_asked J T c)))) (number_judged_lem n))))))
 
   open_judged_lem : (o : Option Reserved) → open_judged (option_map (with_fate J T) o) ≡ void_refused policy J T o
   open_judged_lem None = refl
