@@ -1,11 +1,11 @@
 -- Which legs the tables refuse, and what they show the policy.
-use Rattle.std.specs.Prelude.{ℕ, ◌+◌, ◌-◌, ◌^◌, min, [], ◌∷◌, length, Some, None, Option, nat_le}
-use Rattle.std.specs.Option.{option_or}
+use Rattle.std.specs.Prelude.{ℕ, ◌+◌, ◌-◌, ◌^◌, min, [], ◌∷◌, length, Option, nat_le}
+use Rattle.std.specs.Option.{option_or, option_and_then}
 use Rattle.meaning.specs.declared.reservation.Reservation.{Reservation}
 use Rattle.meaning.specs.declared.refusal.Refusal.{Refusal}
-use Rattle.meaning.specs.declared.refusal.Refusal.TheVariants.{ChainTooLong, ReservationUnknown}
+use Rattle.meaning.specs.declared.refusal.Refusal.TheVariants.{ChainTooLong}
 use Rattle.meaning.specs.Limits.{most_legs}
-use Rattle.meaning.specs.Rules.{number_refused, amount_refused, room_refused, fate_refused, part_refused, pair_checks, parties_refused}
+use Rattle.meaning.specs.Rules.{number_refused, amount_refused, room_refused, part_refused, void_refused, pair_checks, parties_refused}
 use Rattle.meaning.specs.Basics.{first_of}
 use Rattle.meaning.specs.declared.standing.Standing.{Standing}
 use Rattle.balances.specs.Contents.{Books, row_asked, held_asked}
@@ -36,16 +36,8 @@ full_judged n = first_of ((nat_le most_legs (length n.traces), ChainTooLong) ∷
 abbrev pub reserve_judged : Noted → Books → Option Refusal
 reserve_judged n k = option_or (full_judged n) (room_judged k)
 
-abbrev pub open_judged : Option Reservation → Option Refusal
-open_judged None = Some ReservationUnknown
-open_judged (Some R) = fate_refused R.fate
-
-abbrev pub part_judged : ℕ → Option Reservation → Option Refusal
-part_judged z None = None
-part_judged z (Some R) = part_refused z R.amount
-
 abbrev pub void_judged : (number reservation : ℕ) → Books → Option Refusal
-void_judged n r k = option_or (number_judged n k) (open_judged (held_asked k r))
+void_judged n r k = option_or (number_judged n k) (void_refused (held_asked k r))
 
 abbrev pub post_judged : (number reservation amount : ℕ) → Books → Option Refusal
-post_judged n r z k = option_or (void_judged n r k) (part_judged z (held_asked k r))
+post_judged n r z k = option_or (void_judged n r k) (option_and_then (λ (R : Reservation). part_refused z R.amount) (held_asked k r))

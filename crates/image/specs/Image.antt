@@ -55,7 +55,7 @@ pub record Asks (J : Journal) (T : ℕ) : Type 0 where
   pub account : (a : ℕ) → row_asked (image_of J T) a ≡ account_asked J T a
   pub reservation : (r : ℕ) → held_asked (image_of J T) r ≡ reservation_asked J T r
 
-pub record Keeps (policy : Policy) (J : Journal) (T : ℕ) : Type 0 where
+pub record KeepsImage (policy : Policy) (J : Journal) (T : ℕ) : Type 0 where
   pub asks : Asks J T
   pub by_opening : (full : Bool) (A : Opening) → opening_refused policy J full A ≡ None → opened_with (standing J T A) (image_of J T) ≡ image_of (opening_writes T A ∷ J) T
   pub by_transfer : (n : ℕ) (l : Bool) (d c z : ℕ) → refused policy J T n (Transfer d c z) ≡ None → transferred n d c z (image_of J T) ≡ image_of (entry n l T (Transfer d c z) ∷ J) T
@@ -65,4 +65,4 @@ pub record Keeps (policy : Policy) (J : Journal) (T : ℕ) : Type 0 where
   pub by_lapses : (t n : ℕ) → T ≤ t → due_count t (image_of J T).queue ≤ n → lapses n t (image_of J T) ≡ image_of J t
 
 abbrev pub ImageKeeps : Type 0
-ImageKeeps = (policy : Policy) (J : Journal) → Reads policy J → (T : ℕ) → Keeps policy J T
+ImageKeeps = (policy : Policy) (J : Journal) → Reads policy J → (T : ℕ) → KeepsImage policy J T

@@ -1,6 +1,6 @@
 -- The rules of an opening and of a leg: each refusal with its condition, in the order in which they are checked.
 use Rattle.std.specs.Prelude.{ℕ, ◌+◌, Bool, false, cond, not, ◌||◌, List, [], ◌∷◌, ◌++◌, length, is_some, Some, None, Option, ◌==◌, nat_le, nat_lt}
-use Rattle.std.specs.Option.{option_or}
+use Rattle.std.specs.Option.{option_or, option_and_then}
 use Rattle.meaning.specs.declared.content.Content.{Content}
 use Rattle.meaning.specs.declared.content.Content.TheVariants.{Account, Transfer, Reserve, Post, Void}
 use Rattle.meaning.specs.declared.order.Action.{Action}
@@ -16,9 +16,10 @@ use Rattle.meaning.specs.Labels.{is_label}
 use Rattle.meaning.specs.Limits.{most_accounts, most_reservations}
 use Rattle.meaning.specs.Sound.{top, fits}
 use Rattle.meaning.specs.Basics.{first_of}
-use Rattle.meaning.specs.Given.{Journal, Reserved, accounts, reservations, the_account, the_reservation, fate, highest}
+use Rattle.meaning.specs.Given.{Journal, accounts, reservations, the_account, highest}
+use Rattle.meaning.specs.declared.reservation.Reservation.{Reservation}
 use Rattle.meaning.specs.declared.standing.Standing.{Standing}
-use Rattle.meaning.specs.Questions.{account_asked}
+use Rattle.meaning.specs.Questions.{account_asked, reservation_asked}
 
 -- what a policy admits: a class, a limit, and the totals DP, DQ, CP, CQ
 abbrev pub Policy : Type 0
@@ -76,6 +77,15 @@ fate_refused Lapsed = Some AlreadyLapsed
 abbrev pub part_refused : (z a : ℕ) → Option Refusal
 part_refused z a = first_of ((z == 0 || nat_lt a z, PostAmount) ∷ [])
 
+-- Rules of a leg on a reservation that is known or not, as it stands: a void, and a post of z.
+
+abbrev pub void_refused : Option Reservation → Option Refusal
+void_refused None = Some ReservationUnknown
+void_refused (Some R) = fate_refused R.fate
+
+abbrev pub post_refused : ℕ → Option Reservation → Option Refusal
+post_refused z o = option_or (void_refused o) (option_and_then (λ (R : Reservation). part_refused z R.amount) o)
+
 -- Rules of a leg between a debit account D and a credit account C.
 
 -- z more between them, as they stand
@@ -112,21 +122,13 @@ module _ (policy : Policy) (J : Journal) (T : ℕ) where
   movement_refused n d c p q =
       option_or (number_refused (highest J) n) (option_or (amount_refused (p + q)) (parties_refused (between_checks policy p q) (account_asked J T d) (account_asked J T c)))
 
-  abbrev pub post_refused : ℕ → Option Reserved → Option Refusal
-  post_refused z None = Some ReservationUnknown
-  post_refused z (Some R) = option_or (fate_refused (fate J T R)) (part_refused z R.amount)
-
-  abbrev pub void_refused : Option Reserved → Option Refusal
-  void_refused None = Some ReservationUnknown
-  void_refused (Some R) = fate_refused (fate J T R)
-
   -- why an entry of this number and content is refused after J at moment T, if it is
   abbrev pub refused : ℕ → Content → Option Refusal
   refused n (Account l k m b) = opening_refused policy J false (record { number = n; ledger = l; class = k; limit = m; label = b })
   refused n (Transfer d c z) = movement_refused n d c 0 z
   refused n (Reserve d c z u) = option_or (movement_refused n d c z 0) (room_refused (length (reservations J)))
-  refused n (Post r z) = option_or (number_refused (highest J) n) (post_refused z (the_reservation J r))
-  refused n (Void r) = option_or (number_refused (highest J) n) (void_refused (the_reservation J r))
+  refused n (Post r z) = option_or (number_refused (highest J) n) (post_refused z (reservation_asked J T r))
+  refused n (Void r) = option_or (number_refused (highest J) n) (void_refused (reservation_asked J T r))
 
 -- What a taken opening and a taken leg write.
 

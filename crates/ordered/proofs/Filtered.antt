@@ -3,7 +3,7 @@ use Rattle.std.proofs.Common.{◌≡◌, Bool, true, false, cond, List, [], ◌�
 use Rattle.std.specs.List.{filter}
 use Rattle.meaning.specs.Basics.{put, in_order}
 use Rattle.ordered.specs.Rows.{Ordered}
-use Rattle.ordered.specs.Laws.{Lawful}
+use Rattle.ordered.specs.Laws.{LawfulOrder}
 use Rattle.ordered.proofs.Orderly.{all_filtered, none_sooner, put_first}
 use Rattle.ordered.proofs.Inserts.{in_order_ordered}
 
@@ -14,7 +14,7 @@ module _ {K : Type 0} (before : K → K → Bool) (p : K → Bool) where
       let r = filter-put-failing k xs e in
       elim (before k x) as (λ b. filter p (cond b (k ∷ (x ∷ xs)) (x ∷ put before k xs)) ≡ filter p (x ∷ xs)) [ true ↦ rw e | false ↦ rw r ]
 
-  module _ (law : Lawful before) where
+  module _ (law : LawfulOrder before) where
     pub filter-put : (k : K) (xs : List K) → p k ≡ true → Ordered before xs → filter p (put before k xs) ≡ put before k (filter p xs)
     filter-put k [] e h = rw e
     filter-put k (x ∷ xs) e h = go (before k x) (p x) refl refl (filter-put k xs e h.1)

@@ -4,7 +4,7 @@ use Rattle.std.specs.List.{AllByRecursion as All, filter}
 use Rattle.std.proofs.ByRecursion.{All-weaker}
 use Rattle.std.proofs.lemmas.Bool.{both_ways}
 use Rattle.meaning.specs.Basics.{put}
-use Rattle.ordered.specs.Laws.{Lawful}
+use Rattle.ordered.specs.Laws.{LawfulOrder}
 
 module _ {K : Type 0} (before : K → K → Bool) where
   pub all_put : (P : K → Type 0) (k : K) (xs : List K) → P k → All P xs → All P (put before k xs)
@@ -25,7 +25,7 @@ module _ {K : Type 0} (before : K → K → Bool) where
       let r = all_filtered P p xs h.1 in
       elim (p x) as (λ b. All P (cond b (x ∷ filter p xs) (filter p xs))) [ true ↦ (h.0, r) | false ↦ r ]
 
-  module _ (law : Lawful before) where
+  module _ (law : LawfulOrder before) where
     -- what is not before z is not before what comes before z
     pub no_sooner : (x y z : K) → before x z ≡ true → before y z ≡ false → before y x ≡ false
     no_sooner x y z e f = go (before y x) refl

@@ -4,7 +4,7 @@ use Rattle.std.specs.List.{AllByRecursion as All, filter}
 use Rattle.std.proofs.ByRecursion.{All-weaker}
 use Rattle.std.proofs.lemmas.Bool.{both_ways}
 use Rattle.ordered.specs.Rows.{Ordered}
-use Rattle.ordered.specs.Laws.{Lawful, Splits}
+use Rattle.ordered.specs.Laws.{LawfulOrder, Splits}
 
 module _ {K : Type 0} (p : K → Bool) where
   filter_none : (xs : List K) → All (λ x. p x ≡ false) xs → filter p xs ≡ []
@@ -15,7 +15,7 @@ module _ {K : Type 0} (p : K → Bool) where
   filter_all [] h = refl
   filter_all (x ∷ xs) h = rw h.0 (ap (λ ys. x ∷ ys) (filter_all xs h.1))
 
-module _ {K : Type 0} (before : K → K → Bool) (law : Lawful before) (p : K → Bool) (down : (x y : K) → p y ≡ true → before x y ≡ true → p x ≡ true) where
+module _ {K : Type 0} (before : K → K → Bool) (law : LawfulOrder before) (p : K → Bool) (down : (x y : K) → p y ≡ true → before x y ≡ true → p x ≡ true) where
   fails_after : (x y : K) → p x ≡ false → before y x ≡ false → p y ≡ false
   fails_after x y e f = go (p y) (before x y) refl refl
     where

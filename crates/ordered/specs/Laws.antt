@@ -6,7 +6,7 @@ use Rattle.ordered.specs.Rows.{apart, Ordered, without}
 
 module _ {K : Type 0} (before : K → K → Bool) where
   -- what makes a test an order of keys
-  pub record Lawful : Type 0 where
+  pub record LawfulOrder : Type 0 where
     pub irreflexive : (x : K) → before x x ≡ false
     pub transitive : (x y z : K) → before x y ≡ true → before y z ≡ true → before x z ≡ true
     pub total : (x y : K) → before x y ≡ false → before y x ≡ false → x ≡ y

@@ -1,19 +1,20 @@
 -- What the tables refuse of a leg, and the policy after them, is what the rules refuse.
 use Rattle.std.proofs.Common.{◌≡◌, ℕ, ◌+◌, Bool, true, false, length, not, eqb, [], ◌∷◌, Some, None, Option, refl, ap, ◌∙◌}
-use Rattle.std.specs.Option.{option_map, option_or}
+use Rattle.std.specs.Option.{option_map, option_or, option_and_then}
 use Rattle.meaning.specs.declared.opening.Opening.{Opening}
 use Rattle.meaning.specs.declared.refusal.Refusal.{Refusal}
+use Rattle.meaning.specs.declared.reservation.Reservation.{Reservation}
 use Rattle.meaning.specs.declared.refusal.Refusal.TheVariants.{SameAccount, LedgersDiffer, TopPassed, DebitNotAdmitted, CreditNotAdmitted}
 use Rattle.meaning.specs.Basics.{at, first_of}
 use Rattle.meaning.specs.declared.content.Content.TheVariants.{Post, Void}
-use Rattle.meaning.specs.Given.{Journal, Reserved, reservations, the_account, the_reservation, highest}
+use Rattle.meaning.specs.Given.{Journal, reservations, the_account, the_reservation, highest}
 use Rattle.meaning.specs.declared.standing.Standing.{Standing}
-use Rattle.meaning.specs.Questions.{standing, with_fate, account_asked}
+use Rattle.meaning.specs.Questions.{standing, with_fate, account_asked, reservation_asked}
 use Rattle.meaning.specs.Rows.{debited, credited}
-use Rattle.meaning.specs.Rules.{Policy, number_refused, amount_refused, pair_checks, policy_checks, between_checks, parties_refused, movement_refused, room_refused, post_refused, void_refused, refused}
+use Rattle.meaning.specs.Rules.{Policy, number_refused, amount_refused, pair_checks, policy_checks, between_checks, parties_refused, movement_refused, room_refused, part_refused, void_refused, refused}
 use Rattle.meaning.specs.Sound.{fits}
 use Rattle.balances.specs.Books.{Books, row_asked, held_asked}
-use Rattle.balances.specs.Judged.{number_judged, pair_judged, movement_judged, room_judged, open_judged, part_judged, void_judged, post_judged}
+use Rattle.balances.specs.Judged.{number_judged, pair_judged, movement_judged, room_judged, void_judged, post_judged}
 use Rattle.laws.specs.Steps.{Reads}
 use Rattle.image.specs.Image.{image_of}
 use Rattle.image.proofs.Asked.{asks}
@@ -92,21 +93,14 @@ module _ (policy : Policy) (J : Journal) (T : ℕ) (h : Reads policy J) (k : Boo
       ∙ (ap (λ r. option_or (number_judged n k) (option_or (amount_refused (p + q)) r)) (parties_lem policy J T p q (the_account J d) (the_account J c))
       ∙ ap (λ r. option_or r (option_or (amount_refused (p + q)) (parties_refused (between_checks policy p q) (account_asked J T d) (account_asked J T c)))) (number_judged_lem n))))))
 
-  open_judged_lem : (o : Option Reserved) → open_judged (option_map (with_fate J T) o) ≡ void_refused policy J T o
-  open_judged_lem None = refl
-  open_judged_lem (Some R) = refl
-
   pub void_judged_lem : (n r : ℕ) → void_judged n r k ≡ refused policy J T n (Void r)
   void_judged_lem n r =
-      ap (λ x. option_or x (open_judged (held_asked k r))) (number_judged_lem n)
-      ∙ ap (option_or (number_refused (highest J) n)) (ap open_judged (reservation_asked_lem r) ∙ open_judged_lem (the_reservation J r))
-
-  part_judged_lem : (z : ℕ) (o : Option Reserved) → option_or (void_refused policy J T o) (part_judged z (option_map (with_fate J T) o)) ≡ post_refused policy J T z o
-  part_judged_lem z None = refl
-  part_judged_lem z (Some R) = refl
+      ap (λ x. option_or x (void_refused (held_asked k r))) (number_judged_lem n)
+      ∙ ap (λ o. option_or (number_refused (highest J) n) (void_refused o)) (reservation_asked_lem r)
 
   pub post_judged_lem : (n r z : ℕ) → post_judged n r z k ≡ refused policy J T n (Post r z)
   post_judged_lem n r z =
-      ap (λ x. option_or x (part_judged z (held_asked k r))) (void_judged_lem n r)
-      ∙ (option_or-assoc (number_refused (highest J) n) (void_refused policy J T (the_reservation J r)) (part_judged z (held_asked k r))
-      ∙ ap (option_or (number_refused (highest J) n)) (ap (λ o. option_or (void_refused policy J T (the_reservation J r)) (part_judged z o)) (reservation_asked_lem r) ∙ part_judged_lem z (the_reservation J r)))
+      let part : Option Reservation → Option Refusal = option_and_then (λ (R : Reservation). part_refused z R.amount) in
+      ap (λ x. option_or x (part (held_asked k r))) (void_judged_lem n r)
+      ∙ (option_or-assoc (number_refused (highest J) n) (void_refused (reservation_asked J T r)) (part (held_asked k r))
+      ∙ ap (λ o. option_or (number_refused (highest J) n) (option_or (void_refused (reservation_asked J T r)) (part o))) (reservation_asked_lem r))

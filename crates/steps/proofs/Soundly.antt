@@ -1,11 +1,13 @@
 -- What a leg that no rule refuses writes down keeps the rules of an entry.
 use Rattle.std.proofs.Common.{◌≡◌, ℕ, ◌^◌, ◌<◌, ◌≤◌, Bool, true, false, ◌&&◌, ltb, leb, [], ◌∷◌, Some, None, sym, ap, ◌∙◌, arith, ◌+◌}
 use Rattle.std.specs.List.{AllByRecursion as All}
+use Rattle.std.specs.Option.{option_map}
 use Rattle.std.proofs.lemmas.Bool.{le-leb, lt-ltb, and_from}
 use Rattle.meaning.specs.declared.content.Content.{Content}
 use Rattle.meaning.specs.declared.content.Content.TheVariants.{Account, Transfer, Reserve, Post, Void}
 use Rattle.meaning.specs.declared.opening.Opening.{Opening}
 use Rattle.meaning.specs.Given.{Journal, Reserved, accounts, reservations, the_account, the_reservation, due, fate, highest}
+use Rattle.meaning.specs.Questions.{with_fate, reservation_asked}
 use Rattle.meaning.specs.Rules.{Policy, number_refused, fate_refused, post_refused, refused, part_refused}
 use Rattle.meaning.specs.Sound.{top, last, is_number, is_amount, is_until, content_sound, sound}
 use Rattle.laws.specs.Steps.{Reads}
@@ -89,8 +91,8 @@ module _ (policy : Policy) (J : Journal) (h : Reads policy J) (T n : ℕ) (l : B
       let some : 0 < z = posted_some p.0 p.1 w.1 in
       written (Post r z) (numbered w.0) (and_from (is_number r) _ (is_number_lem r m.0 sr) (is_amount_lem z some (omega arith)))
     where
-      posted_some : (R : Reserved) → the_reservation J r ≡ Some R → post_refused policy J T z (the_reservation J r) ≡ None → 0 < z
-      posted_some R is none = let q = sym (ap (post_refused policy J T z) is) ∙ none in let v = (both_none (fate_refused (fate J T R)) (part_refused z R.amount) q).1 in grind arith
+      posted_some : (R : Reserved) → the_reservation J r ≡ Some R → post_refused z (reservation_asked J T r) ≡ None → 0 < z
+      posted_some R is none = let q = sym (ap (λ o. post_refused z (option_map (with_fate J T) o)) is) ∙ none in let v = (both_none (fate_refused (fate J T R)) (part_refused z R.amount) q).1 in grind arith
 
   pub void_sound : (r : ℕ) → r < 2 ^ 32 → refused policy J T n (Void r) ≡ None → sound (entry n l T (Void r)) ≡ true
   void_sound r sr e =
