@@ -3,7 +3,7 @@ use Rattle.std.proofs.Common.{◌≡◌, ◌≤◌, Bool, true, false, cond, ltb
 use Rattle.std.proofs.lemmas.Bool.{ltb-true}
 use Rattle.std.proofs.lemmas.List.{length_push}
 use Rattle.meaning.specs.Basics.{put}
-use Rattle.meaning.specs.Questions.{Standing}
+use Rattle.meaning.specs.declared.standing.Standing.{Standing}
 use Rattle.ordered.specs.declared.line.Line.{Line}
 use Rattle.ordered.specs.Orders.{line_before}
 use Rattle.ordered.proofs.Orderly.{length-put}

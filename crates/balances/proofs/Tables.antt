@@ -1,14 +1,14 @@
 -- Tables seen through a view.
 use Rattle.std.proofs.Common.{◌≡◌, ℕ, zero, suc, ◌<◌, ◌≤◌, List, [], ◌∷◌, map, length, get_or, set, MutBor, unwrap_or, sym, refl, ap, ◌∙◌, ⊎_elim, arith}
 use Rattle.std.proofs.lemmas.Bool.{cases_lt}
-use Rattle.std.proofs.lemmas.List.{map-set, get_or-map, length-map}
+use Rattle.std.proofs.lemmas.List.{map-set, get_or-map, get_or_default, length-map}
 use Rattle.std.specs.List.{slice_get}
 use Rattle.std.specs.Fn.{FnOnceReturnsAtMut}
 use denote.Param.Members.{Once}
 use lib.Seq.{set_out}
 use Rattle.meaning.specs.declared.account.Account.{Account}
 use Rattle.meaning.specs.declared.reservation.Reservation.{Reservation}
-use Rattle.meaning.specs.Questions.{Standing}
+use Rattle.meaning.specs.declared.standing.Standing.{Standing}
 use Rattle.meaning.specs.Rows.{standing_of}
 use Rattle.ordered.specs.declared.due.Due.{Due}
 use Rattle.ordered.specs.declared.line.Line.{Line}
@@ -35,6 +35,17 @@ module _ {X Y F : Type 0} (g : X → Y) (f : Y → Y) (d : Y) (xs ys : List X) (
 
       past : length xs ≤ i → map g ys ≡ set (map g xs) i (f (get_or (map g xs) i d))
       past le = ap (map g) (nowhere le) ∙ sym (set_out (map g xs) i _ (omega (arith, length-map xs g)))
+
+-- the same where it is shown as it is
+module _ {X F : Type 0} (f : X → X) (d : X) (xs ys : List X) (i : ℕ) {once : Once F (MutBor X × Unit {0}) (Unit {0} × (MutBor X × Unit {0}))} {change : F} where
+  pub plain_change : (i < length xs → (y : X) × FnOnceReturnsAtMut once change (get_or xs i y) tt y × (ys ≡ set xs i y)) → (length xs ≤ i → ys ≡ xs) → ((x y : X) → FnOnceReturnsAtMut once change x tt y → y ≡ f x) → ys ≡ set xs i (f (get_or xs i d))
+  plain_change there nowhere means = ⊎_elim here past (cases_lt i (length xs))
+    where
+      here : i < length xs → ys ≡ set xs i (f (get_or xs i d))
+      here lt = let h = there lt in h.2 ∙ ap (set xs i) (means _ _ h.1 ∙ ap f (get_or_default xs i h.0 d lt))
+
+      past : length xs ≤ i → ys ≡ set xs i (f (get_or xs i d))
+      past le = nowhere le ∙ sym (set_out xs i _ le)
 
 -- the rows of two accounts, changed one after the other
 module _ (k : Books) (f h : Standing → Standing) (d c : ℕ) {i j : ℕ} {rs ss : List Standing} where

@@ -5,7 +5,7 @@ use Rattle.std.proofs.lemmas.List.{set-set, set_comm, set-get_or, take_all, take
 use Rattle.std.proofs.lemmas.Bool.{cases_eq, lt-ltb, cond-true}
 use Rattle.meaning.specs.declared.reservation.Reservation.{Reservation}
 use Rattle.meaning.specs.declared.fate.Event.{Event}
-use Rattle.meaning.specs.Questions.{Standing}
+use Rattle.meaning.specs.declared.standing.Standing.{Standing}
 use Rattle.meaning.specs.Rows.{credited, credit_released}
 use Rattle.ordered.specs.declared.due.Due.{Due}
 use Rattle.balances.specs.Contents.{Books, row_place, no_row, no_reservation}

@@ -1,12 +1,13 @@
 -- What the tables say: the accounts and reservations in the order in which they came, the highest number, the
 -- queue of deadlines and the keys of the listing's lines.
-use Rattle.std.specs.Prelude.{ℕ, ◌≤◌, cond, List, [], ◌∷◌, ◌++◌, map, length, Some, None, Option, nat_lt, slice_index_or, slice_set}
+use Rattle.std.specs.Prelude.{ℕ, ◌≤◌, cond, List, [], ◌∷◌, ◌++◌, length, Option, nat_lt, slice_index_or, slice_set, slice_get, ◌==◌}
+use Rattle.std.specs.List.{position_or_len}
 use Rattle.meaning.specs.declared.reservation.Reservation.{Reservation}
 use Rattle.meaning.specs.declared.fate.Fate.TheVariants.{Live}
-use Rattle.meaning.specs.Questions.{Standing}
+use Rattle.meaning.specs.Limits.{most_accounts}
+use Rattle.meaning.specs.declared.standing.Standing.{Standing}
 use Rattle.ordered.specs.declared.due.Due.{Due}
 use Rattle.ordered.specs.declared.line.Line.{Line}
-use Rattle.balances.specs.Places.{place_of}
 use Rattle.balances.specs.Queues.{listed}
 
 pub record Books : Type 0 where
@@ -18,30 +19,30 @@ pub record Books : Type 0 where
 
 -- no more accounts, and no more lines of the listing, than there is room for
 abbrev pub Few : Books → Type 0
-Few k = (length k.rows ≤ 64) × (length k.lines ≤ 64)
+Few k = (length k.rows ≤ most_accounts) × (length k.lines ≤ most_accounts)
 
 abbrev pub empty : Books
 empty = record { rows = []; held = []; highest = 0; queue = []; lines = [] }
 
 -- what stands at no place; the label is a hyphen
 abbrev pub no_row : Standing
-no_row = record { account = record { number = 0; ledger = 0; class = 0; limit = 0; label = 0x2d20202020202020 }; dp = 0; dq = 0; cp = 0; cq = 0 }
+no_row = record { account = record { number = 0; ledger = 0; class = 0; limit = 0; label = 0x2d20202020202020 }; debits_pending = 0; debits_posted = 0; credits_pending = 0; credits_posted = 0 }
 
 abbrev pub no_reservation : Reservation
 no_reservation = record { number = 0; debit = 0; credit = 0; amount = 0; deadline = 0; fate = Live }
 
 -- the place of an account and of a reservation, or how many there are
 abbrev pub row_place : Books → ℕ → ℕ
-row_place k n = place_of n (map (λ (s : Standing). s.account.number) k.rows)
+row_place k n = position_or_len (λ (s : Standing). s.account.number == n) k.rows
 
 abbrev pub held_place : Books → ℕ → ℕ
-held_place k n = place_of n (map (λ (r : Reservation). r.number) k.held)
+held_place k n = position_or_len (λ (r : Reservation). r.number == n) k.held
 
 abbrev pub row_asked : Books → ℕ → Option Standing
-row_asked k n = cond (nat_lt (row_place k n) (length k.rows)) (Some (slice_index_or k.rows (row_place k n) no_row)) None
+row_asked k n = slice_get k.rows (row_place k n)
 
 abbrev pub held_asked : Books → ℕ → Option Reservation
-held_asked k n = cond (nat_lt (held_place k n) (length k.held)) (Some (slice_index_or k.held (held_place k n) no_reservation)) None
+held_asked k n = slice_get k.held (held_place k n)
 
 -- the row at a place, changed
 abbrev pub with_row : (Standing → Standing) → ℕ → Books → Books
@@ -50,6 +51,6 @@ with_row f i k = record k { rows = slice_set k.rows i (f (slice_index_or k.rows 
 abbrev pub line_of : Standing → Line
 line_of s = record { ledger = s.account.ledger; label = s.account.label; number = s.account.number }
 
--- one account more, unless there are 64 already
+-- one account more, unless there are as many as there may be
 abbrev pub opened_with : Standing → Books → Books
-opened_with s k = cond (nat_lt (length k.rows) 64) (record k { rows = k.rows ++ (s ∷ []); lines = listed (line_of s) k.lines }) k
+opened_with s k = cond (nat_lt (length k.rows) most_accounts) (record k { rows = k.rows ++ (s ∷ []); lines = listed (line_of s) k.lines }) k

@@ -1,5 +1,6 @@
 -- What falls due.
 use Rattle.std.specs.Prelude.{ℕ, cond, Some, None, Option, nat_le}
+use Rattle.std.specs.Option.{option_map, option_map_or}
 use Rattle.ordered.specs.declared.due.Due.{Due}
 use Rattle.balances.specs.Contents.{Books}
 use Rattle.balances.specs.Legs.{lapsed}
@@ -19,9 +20,7 @@ lapsed_if None k = k
 lapsed_if (Some d) k = lapsed d k
 
 abbrev pub number_in : Option Due → Option ℕ
-number_in None = None
-number_in (Some d) = Some d.number
+number_in o = option_map (λ (d : Due). d.number) o
 
 abbrev pub deadline_in : Option Due → ℕ
-deadline_in None = 0
-deadline_in (Some d) = d.deadline
+deadline_in o = option_map_or (λ (d : Due). d.deadline) o 0

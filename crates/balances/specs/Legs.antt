@@ -3,6 +3,7 @@ use Rattle.std.specs.Prelude.{ℕ, cond, List, [], ◌∷◌, ◌++◌, length, 
 use Rattle.meaning.specs.declared.reservation.Reservation.{Reservation}
 use Rattle.meaning.specs.declared.fate.Event.{Event}
 use Rattle.meaning.specs.declared.fate.Event.TheVariants.{Lapse}
+use Rattle.meaning.specs.Limits.{most_reservations}
 use Rattle.meaning.specs.Rows.{debited, credited, debit_released, credit_released, met}
 use Rattle.ordered.specs.declared.due.Due.{Due}
 use Rattle.ordered.specs.Orders.{due_before}
@@ -35,7 +36,7 @@ released d c a b k = with_row (credit_released a b) (row_place k c) (with_row (d
 abbrev pub numbered : ℕ → Books → Books
 numbered n k = record k { highest = n }
 
--- one reservation more, in its place in the queue if it has a deadline, unless there are 256 already
+-- one reservation more, in its place in the queue if it has a deadline, unless there are as many as there may be
 abbrev pub due_of : Reservation → Due
 due_of R = record { deadline = R.deadline; number = R.number }
 
@@ -43,7 +44,7 @@ abbrev pub waits : Reservation → List Due → List Due
 waits R q = cond (R.deadline == 0) q (joined (due_of R) q)
 
 abbrev pub with_held : Reservation → Books → Books
-with_held R k = cond (nat_lt (length k.held) 256) (record k { held = k.held ++ (R ∷ []); queue = waits R k.queue }) k
+with_held R k = cond (nat_lt (length k.held) most_reservations) (record k { held = k.held ++ (R ∷ []); queue = waits R k.queue }) k
 
 -- the reservation at a place meets an event
 abbrev pub with_fate : Event → ℕ → Books → Books

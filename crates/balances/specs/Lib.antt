@@ -1,5 +1,4 @@
 pub mod Queues
-pub mod Places
 pub mod Contents
 pub mod Shown
 pub mod Books

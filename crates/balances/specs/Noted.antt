@@ -1,7 +1,8 @@
 -- What is noted while a chain is open.
 use Rattle.std.specs.Prelude.{ℕ, cond, List, [], ◌∷◌, ◌++◌, length, nat_lt}
 use Rattle.meaning.specs.declared.reservation.Reservation.{Reservation}
-use Rattle.meaning.specs.Questions.{Standing}
+use Rattle.meaning.specs.Limits.{most_legs}
+use Rattle.meaning.specs.declared.standing.Standing.{Standing}
 use Rattle.meaning.specs.Rows.{standing_of}
 use Rattle.ordered.specs.declared.due.Due.{Due}
 use Rattle.balances.specs.declared.notes.Undo.{Undo}
@@ -38,6 +39,6 @@ pub record Noted : Type 0 where
 abbrev pub no_legs : List Due → Noted
 no_legs q = record { traces = []; queue = q }
 
--- one leg more is noted, unless there are 16 already
+-- one leg more is noted, unless there are as many as there may be
 abbrev pub with_trace : Trace → Noted → Noted
-with_trace t n = cond (nat_lt (length n.traces) 16) (record { traces = n.traces ++ (t ∷ []); queue = n.queue }) n
+with_trace t n = cond (nat_lt (length n.traces) most_legs) (record { traces = n.traces ++ (t ∷ []); queue = n.queue }) n

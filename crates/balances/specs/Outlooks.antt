@@ -1,6 +1,6 @@
 -- What an outlook shows of two accounts.
 use Rattle.std.specs.Prelude.{◌≡◌, Some, Option}
-use Rattle.meaning.specs.Questions.{Standing}
+use Rattle.meaning.specs.declared.standing.Standing.{Standing}
 use Rattle.meaning.specs.Rows.{standing_of}
 use Rattle.balances.specs.declared.outlook.Outlook.{Outlook}
 

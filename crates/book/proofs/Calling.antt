@@ -5,10 +5,10 @@ use Rattle.meaning.specs.declared.answers.Moved.{Moved}
 use Rattle.meaning.specs.declared.opening.Opening.{Opening}
 use Rattle.meaning.specs.declared.record.Record.{Record}
 use Rattle.meaning.specs.declared.refusal.Refusal.{Refusal}
-use Rattle.meaning.specs.Calls.{answered, unless, over, moved, unread, opens_not, moves_not, account_seen, reservation_seen}
+use Rattle.meaning.specs.Calls.{answered, unless, over, move_answer, unread, opens_not, moves_not, account_seen, reservation_seen}
 use Rattle.meaning.specs.Given.{Journal}
 use Rattle.meaning.specs.Listing.{listing}
-use Rattle.meaning.specs.Moves.{lapsed, move_refused}
+use Rattle.meaning.specs.Moves.{lapse_list, move_refused}
 use Rattle.meaning.specs.Questions.{account_asked, reservation_asked}
 use Rattle.meaning.specs.Reading.{stopped_refused, Reading}
 use Rattle.meaning.specs.Rules.{Policy, opening_checks, opening_refused, opening_writes}
@@ -78,8 +78,8 @@ module _ {J P : Type 0} (j : journal.Ghosts J) (p : policy.Ghosts P) (b b' : Boo
         let not = moving_is t ls in
         let K = journal_of j b.journal in
         record {
-          answer = M.answer ∙ sym (ap (λ o. answered o (moved K b.moment t)) not);
-          lapses = M.lapses ∙ sym (ap (λ o. unless o (over (lapsed K b.moment t) ls) ls) not);
+          answer = M.answer ∙ sym (ap (λ o. answered o (move_answer K b.moment t)) not);
+          lapses = M.lapses ∙ sym (ap (λ o. unless o (over (lapse_list K b.moment t) ls) ls) not);
           after = left [] _ (subst (Wrote j b.journal []) (sym same) (wrote_none j b.journal)) (is ∙ sym (ap (λ o. unless o t b.moment) not));
         }
 

@@ -1,7 +1,7 @@
 -- A book that was read through: what is known of it, and what keeps it so.
 use Rattle.std.proofs.Common.{◌≡◌, ℕ, ◌≤◌, List, [], None, Option, Ok, Err, sym, refl, ap, ◌∙◌, subst, arith}
+use Rattle.std.specs.Option.{option_or}
 use Rattle.meaning.specs.declared.record.Record.{Record}
-use Rattle.meaning.specs.Basics.{or_else}
 use Rattle.meaning.specs.declared.refusal.Refusal.{Refusal}
 use Rattle.meaning.specs.Batches.{grown}
 use Rattle.meaning.specs.Calls.{unread}
@@ -55,8 +55,8 @@ module _ {J P : Type 0} (j : journal.Ghosts J) (p : policy.Ghosts P) where
     shown = record { reads = reads; tables = R.runs.tables }
 
     -- nothing is refused for want of reading
-    pub not_unread : (r : Option Refusal) → or_else (unread (policy_of j p b) (state_of j p b)) r ≡ r
-    not_unread r = ap (λ x. or_else (stopped_refused x) r) R.through
+    pub not_unread : (r : Option Refusal) → option_or (unread (policy_of j p b) (state_of j p b)) r ≡ r
+    not_unread r = ap (λ x. option_or (stopped_refused x) r) R.through
 
     -- what a book keeps, of a journal, tables and a moment that a call left
     pub record Kept (x : J) (k : Balances) (t : ℕ) : Type 0 where

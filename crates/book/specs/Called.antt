@@ -5,7 +5,7 @@ use Rattle.meaning.specs.declared.opening.Opening.{Opening}
 use Rattle.meaning.specs.declared.order.Order.{Order}
 use Rattle.meaning.specs.declared.refusal.Refusal.{Refusal}
 use Rattle.meaning.specs.Batches.{taken, Answer}
-use Rattle.meaning.specs.Calls.{answered, moved, opens_not, open_writes, runs_not, ran, run_writes, run_answers, moves_not, move_lapses, moved_to, reports_not, report_bytes}
+use Rattle.meaning.specs.Calls.{answered, move_answer, opens_not, open_writes, runs_not, ran, run_writes, run_answers, moves_not, move_lapses, moved_to, reports_not, report_bytes}
 use Rattle.meaning.specs.Listing.{listing}
 use Rattle.meaning.specs.Reading.{reading as reading_of}
 use Rattle.journal.specs.declared.journal.Journal as journal
@@ -33,7 +33,7 @@ module _ {J P : Type 0} (j : journal.Ghosts J) (p : policy.Ghosts P) (b : Book J
     pub after : After j p b (run_writes (policy_of j p b) (state_of j p b) os ans) b.moment b'
 
   pub record MovedTo (t : ℕ) (ls : List ℕ) (r : Result Moved Refusal) (ls' : List ℕ) (b' : Book J P j p) : Type 0 where
-    pub answer : r ≡ answered (moves_not (policy_of j p b) (state_of j p b) t ls) (moved (journal_of j b.journal) b.moment t)
+    pub answer : r ≡ answered (moves_not (policy_of j p b) (state_of j p b) t ls) (move_answer (journal_of j b.journal) b.moment t)
     pub lapses : ls' ≡ move_lapses (policy_of j p b) (state_of j p b) t ls
     pub after : After j p b [] (moved_to (policy_of j p b) (state_of j p b) t ls) b'
 

@@ -1,6 +1,7 @@
 -- What is found in a memory to which entries were appended.
 use Rattle.std.proofs.Common.{◌≡◌, ℕ, ◌+◌, ◌-◌, ◌*◌, ◌≤◌, ◌<◌, ◌/◌, min, drop, Bool, true, false, cond, List, [], ◌∷◌, ◌++◌, length, Some, None, Option, sym, refl, ap, ◌∙◌, arith}
 use Rattle.std.proofs.lemmas.List.{length-append, append-nil}
+use Rattle.std.specs.List.{cons_option}
 use Rattle.meaning.specs.declared.entry.Entry.{Entry}
 use Rattle.meaning.specs.declared.order.Order.{Order}
 use Rattle.meaning.specs.declared.record.Record.{Record}
@@ -15,7 +16,7 @@ use Rattle.journal.specs.declared.strip.Strip.{Strip}
 use Rattle.journal.specs.Strips.{is_strip, room, held, listed, written_all, used_of, made_bytes, made_list, made_spare}
 use Rattle.journal.proofs.Again.{lists_again}
 use Rattle.journal.proofs.Held.{length-blocks}
-use Rattle.steps.specs.Written.{entries_of, with_entry, records_of}
+use Rattle.steps.specs.Written.{entries_of, records_of}
 use Rattle.reading.specs.Stands.{start_of}
 use Rattle.clients.specs.Rounds.{found, left}
 
@@ -24,7 +25,7 @@ no_more_entries : (fs : List Record) → length (entries_of fs) ≤ length fs
 no_more_entries [] = omega arith
 no_more_entries (f ∷ fs) = omega (arith, go (entry_of f) (no_more_entries fs))
   where
-    go : (o : Option Entry) → length (entries_of fs) ≤ length fs → length (with_entry o (entries_of fs)) ≤ length fs + 1
+    go : (o : Option Entry) → length (entries_of fs) ≤ length fs → length (cons_option o (entries_of fs)) ≤ length fs + 1
     go None le = omega arith
     go (Some e) le = omega arith
 

@@ -18,7 +18,7 @@ use Rattle.promise.specs.Histories.{beginning}
 use Rattle.promise.specs.Made.{CallsAll, with_desk}
 use Rattle.promise.specs.Worlds.{World, adds_all}
 use Rattle.promise.proofs.Living.{same-final, same-adds}
-use Rattle.clients.specs.Seasons.{season, before_all, then_was}
+use Rattle.clients.specs.Seasons.{season, before_all, season_was}
 
 -- a mirror of two rolls takes as many entries as either
 pub two_rolls : (m : Mirror Roll Roll) (r s : Roll) → m.first ≡ r → m.second ≡ s → 256 - length r.table ≡ 256 → 256 - length s.table ≡ 256 → min (256 - length m.first.table) (256 - length m.second.table) ≡ 256
@@ -53,5 +53,5 @@ module _ {J : Type 0} (j : journal.Ghosts J) (x : J) (empty : j.entries x ≡ []
         run.wrote.entries ∙ (ap (λ v. j.entries v ++ entries_of (adds_all (policy_of j p A) os (with_desk (state_of j p A) d) past)) made.journal
         ∙ (ap (λ es. es ++ entries_of (adds_all (policy_of j p A) os (with_desk (state_of j p A) d) past)) empty ∙ ap entries_of (same-adds policy_is start os past)))
 
-    pub leaves : j.spare A1.journal ≡ (then_was os past).spare
+    pub leaves : j.spare A1.journal ≡ (season_was os past).spare
     leaves = ap (λ (w : World). w.state.spare) (run.world ∙ same-final policy_is start os past)

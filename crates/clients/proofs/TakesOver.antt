@@ -3,7 +3,7 @@ use Rattle.std.proofs.Common.{◌≡◌, List, [], ◌++◌, Result, Ok, sym, ap
 use Rattle.meaning.specs.declared.answers.Moved.{Moved}
 use Rattle.meaning.specs.declared.order.Order.{Order}
 use Rattle.meaning.specs.declared.refusal.Refusal.{Refusal}
-use Rattle.meaning.specs.Calls.{State, moved}
+use Rattle.meaning.specs.Calls.{State, move_answer}
 use Rattle.meaning.specs.Given.{latest}
 use Rattle.meaning.specs.Reading.{reading as reading_of}
 use Rattle.meaning.specs.Rules.{Policy}
@@ -19,11 +19,11 @@ use Rattle.promise.specs.Histories.{beginning, arrived, Alike, Meets, Twin, Hist
 use Rattle.promise.specs.Worlds.{World, final, adds_all}
 use Rattle.promise.proofs.Living.{same-final, same-adds}
 use Rattle.clients.specs.Handed.{HandedOver}
-use Rattle.clients.specs.Seasons.{season, before_all, then_was}
+use Rattle.clients.specs.Seasons.{season, before_all, season_was}
 use Rattle.clients.proofs.Starting.{at_first, begins}
 
 module _ {J P K Q : Type 0} (j : journal.Ghosts J) (p : policy.Ghosts P) (k : journal.Ghosts K) (q : policy.Ghosts Q) (x : J) (y : P) (empty : j.entries x ≡ []) (room : j.spare x ≡ 256) (is : p.admits y ≡ season)
-    (x' : K) (y' : Q) (same : q.admits y' ≡ season) (os : List Order) (past further : List Call) (list : k.entries x' ≡ entries_of (adds_all season os before_all past)) (spare : k.spare x' ≡ (then_was os past).spare)
+    (x' : K) (y' : Q) (same : q.admits y' ≡ season) (os : List Order) (past further : List Call) (list : k.entries x' ≡ entries_of (adds_all season os before_all past)) (spare : k.spare x' ≡ (season_was os past).spare)
     (before mine theirs before' mine' theirs' : Desk) (b : Book J P j p) (b' : Book K Q k q) (r : Result Moved Refusal) (new : with_desk (beginning j (p.admits y) x) before ≡ at_first (beginning j (p.admits y) x))
     (h : History j p k q (p.admits y) os x past further before mine x' y' theirs before' mine' theirs' b b' r) where
   start : with_desk (beginning j (p.admits y) x) before ≡ before_all
@@ -32,7 +32,7 @@ module _ {J P K Q : Type 0} (j : journal.Ghosts J) (p : policy.Ghosts P) (k : jo
   abbrev then : State
   then = (final (p.admits y) os (with_desk (beginning j (p.admits y) x) before) past).state
 
-  came_to : then ≡ then_was os past
+  came_to : then ≡ season_was os past
   came_to = ap (λ (w : World). w.state) (same-final is start os past)
 
   abbrev Taken : Policy → State → Type 0
@@ -41,7 +41,7 @@ module _ {J P K Q : Type 0} (j : journal.Ghosts J) (p : policy.Ghosts P) (k : jo
   through : reading_of (p.admits y) (journal_of j x) ≡ Ok tt
   through = ap (λ es. reading_of (p.admits y) (records_of es)) empty ∙ h.empty
 
-  told : with_desk (state_of j p b) mine' ≡ final season os (with_desk (then_was os past) mine) further
+  told : with_desk (state_of j p b) mine' ≡ final season os (with_desk (season_was os past) mine) further
   told = h.first_told ∙ same-final is (ap (λ s. with_desk s mine) came_to) os further
 
   entries : k.entries x' ≡ j.entries x ++ entries_of (adds_all (p.admits y) os (with_desk (beginning j (p.admits y) x) before) past)
@@ -53,13 +53,13 @@ module _ {J P K Q : Type 0} (j : journal.Ghosts J) (p : policy.Ghosts P) (k : jo
   met : Meets then (arrived (q.admits y') (beginning k (q.admits y') x') then.moment) r
   met = h.meets through (same ∙ sym is) entries as_much
 
-  moves_on : r ≡ Ok (moved (then_was os past).journal (latest (then_was os past).journal) (then_was os past).moment)
-  moves_on = met.arrival ∙ ap (λ (s : State). Ok (moved s.journal (latest s.journal) s.moment)) came_to
+  moves_on : r ≡ Ok (move_answer (season_was os past).journal (latest (season_was os past).journal) (season_was os past).moment)
+  moves_on = met.arrival ∙ ap (λ (s : State). Ok (move_answer s.journal (latest s.journal) s.moment)) came_to
 
-  told_too : with_desk (state_of k q b') theirs' ≡ final season os (with_desk (then_was os past) theirs) further
+  told_too : with_desk (state_of k q b') theirs' ≡ final season os (with_desk (season_was os past) theirs) further
   told_too = h.second_told ∙ same-final same (ap (λ s. with_desk s theirs) (met.there ∙ came_to)) os further
 
-  taken : Alike mine theirs → Taken season (then_was os past)
+  taken : Alike mine theirs → Taken season (season_was os past)
   taken alike = subst (Taken season) came_to (subst (λ a. Taken a then) is (h.twin through (same ∙ sym is) entries as_much alike))
 
   pub hands_over : HandedOver j p k q os past further mine theirs mine' theirs' b b' r

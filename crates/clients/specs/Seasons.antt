@@ -2,8 +2,10 @@
 use Rattle.std.specs.Prelude.{List, [], replicate, Ok}
 use Rattle.meaning.specs.declared.order.Order.{Order}
 use Rattle.meaning.specs.Calls.{State}
+use Rattle.meaning.specs.Limits.{most_reservations}
 use Rattle.meaning.specs.Policies.{open_to_all, floor, ceiling, by_class}
 use Rattle.meaning.specs.Rules.{Policy}
+use Rattle.journal.specs.Rolls.{roll_room}
 use Rattle.promise.specs.declared.call.Call.{Call}
 use Rattle.promise.specs.declared.told.Told.TheVariants.{Nothing}
 use Rattle.promise.specs.Worlds.{World, final}
@@ -13,13 +15,13 @@ season = by_class 2 open_to_all (by_class 3 floor ceiling)
 
 abbrev pub before_all : World
 before_all = record {
-  state = record { journal = []; moment = 0; spare = 256 };
+  state = record { journal = []; moment = 0; spare = roll_room };
   told = replicate 16 Nothing;
   answers = replicate 64 (Ok tt);
-  lapses = replicate 256 0;
+  lapses = replicate most_reservations 0;
   bytes = replicate 4096 0;
 }
 
 -- what the rules make of a past
-abbrev pub then_was : List Order → List Call → State
-then_was os past = (final season os before_all past).state
+abbrev pub season_was : List Order → List Call → State
+season_was os past = (final season os before_all past).state

@@ -4,7 +4,7 @@ ghost use Rattle.steps.specs.Written.{entries_of};
 ghost use Rattle.promise.specs.Made.{Same};
 ghost use Rattle.promise.specs.Worlds.{adds_all};
 ghost use Rattle.clients.specs.Handed.{HandedOver};
-ghost use Rattle.clients.specs.Seasons.{season, before_all, then_was};
+ghost use Rattle.clients.specs.Seasons.{season, before_all, season_was};
 
 use book::Book;
 use journal::{Journal, Mirror, Roll};
@@ -34,7 +34,7 @@ fn season() -> Season
 // Makes a past on a book of its own, from nothing on; the two rolls that it wrote.
 fn written(past: &[Call], orders: &[Order]) -> Mirror<Roll, Roll>
     ensures entries { ⟦<Mirror<Roll, Roll> as Journal>⟧.entries result ≡ entries_of (adds_all season orders.now before_all past.now) }
-    ensures spare { ⟦<Mirror<Roll, Roll> as Journal>⟧.spare result ≡ (then_was orders.now past.now).spare }
+    ensures spare { ⟦<Mirror<Roll, Roll> as Journal>⟧.spare result ≡ (season_was orders.now past.now).spare }
 {
     let mut told = [Told::Nothing; 16];
     let mut answers = [Ok(()); 64];

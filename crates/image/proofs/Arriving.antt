@@ -1,11 +1,10 @@
 -- Lapses take the image from one moment to a later one.
 use Rattle.std.proofs.Common.{◌≡◌, ℕ, zero, suc, ◌+◌, ◌≤◌, Bool, true, false, cond, ◌&&◌, eqb, ltb, leb, List, [], ◌∷◌, map, Some, None, sym, refl, ap, ◌∙◌, subst, arith}
-use Rattle.std.specs.List.{AllByRecursion as All}
+use Rattle.std.specs.List.{AllByRecursion as All, filter}
 use Rattle.std.proofs.ByRecursion.{All-weaker}
 use Rattle.std.proofs.lemmas.Bool.{eqb-true}
 use Rattle.meaning.specs.declared.fate.Fate.{Fate}
 use Rattle.meaning.specs.declared.fate.Fate.TheVariants.{Live, Lapsed}
-use Rattle.meaning.specs.Basics.{those}
 use Rattle.meaning.specs.Fates.{decided}
 use Rattle.meaning.specs.Given.{Journal, Reserved, accounts, reservations, the_reservation, due, fate, is_live}
 use Rattle.meaning.specs.Rules.{Policy}
@@ -45,7 +44,7 @@ module _ (J : Journal) (dist : Distinct key (reservations J)) (apart : Distinct 
   arrived : (F : Reserved → Fate) → All (Bound F) (reservations J) → All (λ (e : Due). leb e.deadline t ≡ false) (image_by J F).queue → image_by J F ≡ image_by J (fate J t)
   arrived F b h =
       let rs = reservations J in
-      let later : All (λ Q. waiting_by F Q ≡ true → leb Q.until t ≡ false) rs = all_of_keys (λ (e : Due). leb e.deadline t ≡ false) (waiting_by F) rs (all_of_in_order due_before (λ (e : Due). leb e.deadline t ≡ false) (map due_of (those (waiting_by F) rs)) h) in
+      let later : All (λ Q. waiting_by F Q ≡ true → leb Q.until t ≡ false) rs = all_of_keys (λ (e : Due). leb e.deadline t ≡ false) (waiting_by F) rs (all_of_in_order due_before (λ (e : Due). leb e.deadline t ≡ false) (map due_of (filter (waiting_by F) rs)) h) in
       same_image J F (fate J t) (All-weaker (λ Q. Bound F Q × (waiting_by F Q ≡ true → leb Q.until t ≡ false)) (λ Q. F Q ≡ fate J t Q) (not_yet F) rs (all_both (Bound F) (λ Q. waiting_by F Q ≡ true → leb Q.until t ≡ false) rs b later))
 
   still_bound : (F : Reserved → Fate) (R : Reserved) → is_live (F R) && due R.until t ≡ true → (Q : Reserved) → Bound F Q × (Q.number ≡ R.number → Q ≡ R) → Bound (lapsing R F) Q
@@ -105,8 +104,8 @@ module _ (J : Journal) (dist : Distinct key (reservations J)) (apart : Distinct 
         let w = (subst (All (Waits (waiting_by F) (reservations J))) e (queued (waiting_by F) (reservations J) dist)).0 in
         after_one w.0 w.1 w.2 w.3 ih le
 
-    pub counts : due_count t (image_by J F).queue ≡ due_count t ds + 1
-    counts = ap (due_count t) e ∙ ap (λ c. cond c (due_count t ds + 1) 0) now
+    pub counts : due_count t (image_by J F).queue ≡ 1 + due_count t ds
+    counts = ap (due_count t) e ∙ ap (λ c. cond c (1 + due_count t ds) 0) now
 
   cases : (n : ℕ) (F : Reserved → Fate) → All (Bound F) (reservations J) → ((d : Due) (ds : List Due) → (image_by J F).queue ≡ d ∷ ds → leb d.deadline t ≡ true → Arrives n F) → (q : List Due) → (image_by J F).queue ≡ q → Arrives n F
   cases n F b more [] e = stop n F b [] e refl tt
@@ -114,7 +113,7 @@ module _ (J : Journal) (dist : Distinct key (reservations J)) (apart : Distinct 
     where
       go : (c : Bool) → leb d.deadline t ≡ c → Arrives n F
       go true h = more d ds e h
-      go false h = stop n F b (d ∷ ds) e (ap (λ c. cond c (Some d) None) h) (none_due t d ds (subst (Ordered due_before) e (in_order_ordered due_before due_lawful (map due_of (those (waiting_by F) (reservations J))))) h)
+      go false h = stop n F b (d ∷ ds) e (ap (λ c. cond c (Some d) None) h) (none_due t d ds (subst (Ordered due_before) e (in_order_ordered due_before due_lawful (map due_of (filter (waiting_by F) (reservations J))))) h)
 
   pub arrives : (n : ℕ) (F : Reserved → Fate) → All (Bound F) (reservations J) → due_count t (image_by J F).queue ≤ n → Arrives n F
   arrives zero F b le = cases zero F b (λ d ds e h. let c = counts zero F b d ds e h in absurd (omega arith)) (image_by J F).queue refl

@@ -1,17 +1,19 @@
 -- A live reservation ends: what the tables hold then, by the fates before and after.
-use Rattle.std.proofs.Common.{◌≡◌, ℕ, ◌+◌, ◌≤◌, Bool, true, false, cond, ◌&&◌, eqb, ltb, map, get_or, Some, None, sym, refl, ap, ◌∙◌, arith}
+use Rattle.std.proofs.Common.{◌≡◌, ℕ, ◌+◌, ◌≤◌, Bool, true, false, cond, ◌&&◌, eqb, ltb, map, get_or, Some, sym, refl, ap, ◌∙◌, arith}
 use Rattle.std.specs.Option.{option_map}
 use Rattle.std.proofs.ByRecursion.{All-weaker}
 use Rattle.std.proofs.lemmas.Bool.{eqb-true, eqb-false, eq-eqb, ne_eqb}
+use Rattle.std.specs.List.{filter}
+use Rattle.std.proofs.lemmas.Option.{get_or_from_slice_get}
 use Rattle.meaning.specs.declared.opening.Opening.{Opening}
 use Rattle.meaning.specs.declared.reservation.Reservation.{Reservation}
 use Rattle.meaning.specs.declared.fate.Event.{Event}
 use Rattle.meaning.specs.declared.fate.Fate.{Fate}
 use Rattle.meaning.specs.declared.fate.Fate.TheVariants.{Live, Posted, Voided, Lapsed}
-use Rattle.meaning.specs.Basics.{at, those, in_order}
+use Rattle.meaning.specs.Basics.{at, in_order}
 use Rattle.meaning.specs.Fates.{next, ends, decided}
 use Rattle.meaning.specs.Given.{Journal, Reserved, accounts, reservations, the_reservation, is_live, highest, Side, debits, credits, pick, through, posted}
-use Rattle.meaning.specs.Questions.{Standing}
+use Rattle.meaning.specs.declared.standing.Standing.{Standing}
 use Rattle.meaning.specs.Rows.{debit_released, credit_released, met}
 use Rattle.ordered.specs.Orders.{due_before, line_before}
 use Rattle.ordered.specs.Rows.{without}
@@ -36,7 +38,7 @@ abbrev pub pending_by : Journal → (Reserved → Fate) → Side → ℕ → ℕ
 pending_by J F = through (λ (R : Reserved). R.debit) (λ R. R.credit) (λ R. at (is_live (F R)) R.amount) (reservations J)
 
 abbrev pub standing_by : Journal → (Reserved → Fate) → Opening → Standing
-standing_by J F A = record { account = A; dp = pending_by J F debits A.number; dq = posted J debits A.number; cp = pending_by J F credits A.number; cq = posted J credits A.number }
+standing_by J F A = record { account = A; debits_pending = pending_by J F debits A.number; debits_posted = posted J debits A.number; credits_pending = pending_by J F credits A.number; credits_posted = posted J credits A.number }
 
 abbrev pub fated : (Reserved → Fate) → Reserved → Reservation
 fated F R = record { number = R.number; debit = R.debit; credit = R.credit; amount = R.amount; deadline = R.until; fate = F R }
@@ -49,7 +51,7 @@ image_by J F = record {
   rows = oldest (standing_by J F) (accounts J);
   held = oldest (fated F) (reservations J);
   highest = highest J;
-  queue = in_order due_before (map due_of (those (waiting_by F) (reservations J)));
+  queue = in_order due_before (map due_of (filter (waiting_by F) (reservations J)));
   lines = in_order line_before (map line_of (accounts J));
 }
 
@@ -58,11 +60,6 @@ live_is Live h = refl
 live_is Posted h = grind arith
 live_is Voided h = grind arith
 live_is Lapsed h = grind arith
-
--- what is found is what stands at the place
-at_place : {Y : Type 0} (o : Bool) (x y : Y) → cond o (Some x) None ≡ Some y → x ≡ y
-at_place true x y e = cc
-at_place false x y e = grind arith
 
 -- reservation R of J is live by the fates F, and by F' it has met the event that ends it as E; the others are as they were
 module _ (J J' : Journal) (F F' : Reserved → Fate) (R : Reserved) (dist : Distinct key (reservations J)) (found : the_reservation J R.number ≡ Some R) (alive : is_live (F R) ≡ true) (ev : Event) (E : Fate) (isE : ends ev ≡ E) (dead : is_live E ≡ false) (final : (f : Fate) → decided E f ≡ E) (after : (Q : Reserved) → F' Q ≡ decided (cond (eqb R.number Q.number) E Live) (F Q)) where
@@ -88,13 +85,13 @@ module _ (J J' : Journal) (F F' : Reserved → Fate) (R : Reserved) (dist : Dist
       ∙ (map-oldest (fated F) (changed_if hkey R.number no_reservation (met ev)) (reservations J)
       ∙ same-oldest _ (fated F') (reservations J) (All-weaker (λ Q. key Q ≡ R.number → Q ≡ R) (λ Q. changed_if hkey R.number no_reservation (met ev) (fated F Q) ≡ fated F' Q) met_one (reservations J) (found_only key R.number (reservations J) R dist found)))
 
-  pub queue_after : without due_before (due_of R) (image_by J F).queue ≡ in_order due_before (map due_of (those (waiting_by F') (reservations J)))
+  pub queue_after : without due_before (due_of R) (image_by J F).queue ≡ in_order due_before (map due_of (filter (waiting_by F') (reservations J)))
   queue_after =
-      without-in_order due_before due_lawful (due_of R) (map due_of (those (waiting_by F) (reservations J)))
+      without-in_order due_before due_lawful (due_of R) (map due_of (filter (waiting_by F) (reservations J)))
       ∙ ap (in_order due_before) (taken_out R (waiting_by F) (waiting_by F') (ap (λ f. is_live f && ltb 0 R.until) ended_now ∙ ap (λ b. b && ltb 0 R.until) dead) (λ Q ne. ap (λ f. is_live f && ltb 0 Q.until) (as_before Q ne)) (reservations J) dist (found_only key R.number (reservations J) R dist found))
 
   pub stands_there : get_or (image_by J F).held (held_place (image_by J F) R.number) no_reservation ≡ fated F R
-  stands_there = at_place _ _ _ (asked_found hkey R.number no_reservation (oldest (fated F) (reservations J)) ∙ (find-oldest (fated F) key hkey (λ Q. refl) R.number (reservations J) dist ∙ ap (option_map (fated F)) found))
+  stands_there = get_or_from_slice_get (image_by J F).held _ _ _ (asked_found hkey R.number (oldest (fated F) (reservations J)) ∙ (find-oldest (fated F) key hkey (λ Q. refl) R.number (reservations J) dist ∙ ap (option_map (fated F)) found))
 
   -- the rows, where so much is posted
   module _ (apart : Distinct akey (accounts J)) (b : ℕ) (le : b ≤ R.amount) (moves : (s : Side) (a : ℕ) → (pending_by J F s a ≡ pending_by J' F' s a + at (eqb (pick s R.debit R.credit) a) R.amount) × (posted J' s a ≡ posted J s a + at (eqb (pick s R.debit R.credit) a) b)) (n : ℕ) (same-as : accounts J' ≡ accounts J) (rs : reservations J' ≡ reservations J) (hs : n ≡ highest J') where
@@ -106,7 +103,7 @@ module _ (J J' : Journal) (F F' : Reserved → Fate) (R : Reserved) (dist : Dist
     ends_at =
         let rows = two_changes (standing_by J F) (λ A. refl) (accounts J) apart R.debit R.credit (debit_released R.amount b) (credit_released R.amount b) (λ s. refl) ∙ (same-oldest _ (standing_by J' F') (accounts J) (all_of _ row_after (accounts J)) ∙ ap (oldest (standing_by J' F')) (sym same-as)) in
         let held = held_after ∙ ap (oldest (fated F')) (sym rs) in
-        let queue = queue_after ∙ ap (λ xs. in_order due_before (map due_of (those (waiting_by F') xs))) (sym rs) in
+        let queue = queue_after ∙ ap (λ xs. in_order due_before (map due_of (filter (waiting_by F') xs))) (sym rs) in
         λ j. books (rows j) (held j) (hs j) (queue j) (ap (λ As. in_order line_before (map line_of As)) (sym same-as) j)
 
     pub close_at : closed ev n (held_place (image_by J F) R.number) b (image_by J F) ≡ image_by J' F'

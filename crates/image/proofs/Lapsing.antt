@@ -23,7 +23,7 @@ use Rattle.laws.proofs.Known.{akey}
 use Rattle.image.specs.Image.{lapses}
 use Rattle.image.proofs.Oldest.{same-oldest}
 use Rattle.image.proofs.Transferred.{all_of}
-use Rattle.image.proofs.Releasing.{those-same}
+use Rattle.image.proofs.Releasing.{filter-same}
 use Rattle.image.proofs.Ending.{pending_by, standing_by, fated, waiting_by, image_by, lapse_at, queue_after}
 
 -- R has lapsed, the others are as they were
@@ -63,7 +63,7 @@ sum_same f g [] h = refl
 sum_same f g (x ∷ xs) h = omega (arith, h.0, sum_same f g xs h.1)
 
 same_row : (J : Journal) (F G : Reserved → Fate) → ((s : Side) (a : ℕ) → pending_by J F s a ≡ pending_by J G s a) → (A : Opening) → standing_by J F A ≡ standing_by J G A
-same_row J F G h A = λ i. record { account = A; dp = h debits A.number i; dq = posted J debits A.number; cp = h credits A.number i; cq = posted J credits A.number }
+same_row J F G h A = λ i. record { account = A; debits_pending = h debits A.number i; debits_posted = posted J debits A.number; credits_pending = h credits A.number i; credits_posted = posted J credits A.number }
 
 -- the same fates give the same image
 pub same_image : (J : Journal) (F G : Reserved → Fate) → All (λ Q. F Q ≡ G Q) (reservations J) → image_by J F ≡ image_by J G
@@ -71,7 +71,7 @@ same_image J F G h =
     let pend : (s : Side) (a : ℕ) → pending_by J F s a ≡ pending_by J G s a = λ s a. sum_same _ _ (reservations J) (All-weaker (λ Q. F Q ≡ G Q) (λ Q. at (eqb (pick s Q.debit Q.credit) a) (at (is_live (F Q)) Q.amount) ≡ at (eqb (pick s Q.debit Q.credit) a) (at (is_live (G Q)) Q.amount)) (λ Q e. ap (λ f. at (eqb (pick s Q.debit Q.credit) a) (at (is_live f) Q.amount)) e) (reservations J) h) in
     let rows = same-oldest (standing_by J F) (standing_by J G) (accounts J) (all_of _ (same_row J F G pend) (accounts J)) in
     let held = same-oldest (fated F) (fated G) (reservations J) (All-weaker (λ Q. F Q ≡ G Q) (λ Q. fated F Q ≡ fated G Q) (λ Q e i. record { number = Q.number; debit = Q.debit; credit = Q.credit; amount = Q.amount; deadline = Q.until; fate = e i }) (reservations J) h) in
-    let queue = ap (λ xs. in_order due_before (map due_of xs)) (those-same (waiting_by F) (waiting_by G) (reservations J) (All-weaker (λ Q. F Q ≡ G Q) (λ Q. waiting_by F Q ≡ waiting_by G Q) (λ Q e. ap (λ f. is_live f && ltb 0 Q.until) e) (reservations J) h)) in
+    let queue = ap (λ xs. in_order due_before (map due_of xs)) (filter-same (waiting_by F) (waiting_by G) (reservations J) (All-weaker (λ Q. F Q ≡ G Q) (λ Q. waiting_by F Q ≡ waiting_by G Q) (λ Q e. ap (λ f. is_live f && ltb 0 Q.until) e) (reservations J) h)) in
     λ j. books (rows j) (held j) (highest J) (queue j) (in_order line_before (map line_of (accounts J)))
 
 -- where nothing is due, nothing lapses

@@ -4,15 +4,14 @@ use Rattle.std.proofs.lemmas.Bool.{le-leb, eqb-true, ne_eqb, eqb-false, eq-eqb}
 use Rattle.meaning.specs.declared.opening.Opening.{Opening}
 use Rattle.meaning.specs.Basics.{at}
 use Rattle.meaning.specs.Sound.{top, fits}
-use Rattle.meaning.specs.Questions.{Standing}
+use Rattle.meaning.specs.declared.standing.Standing.{Standing}
 use Rattle.meaning.specs.Rows.{debited, credited}
 use Rattle.balances.specs.Books.{no_row}
-use Rattle.balances.specs.Places.{place_of}
 use Rattle.laws.proofs.Finds.{Distinct}
 use Rattle.laws.proofs.Known.{akey}
 use Rattle.image.specs.Image.{oldest}
 use Rattle.image.proofs.Asked.{skey}
-use Rattle.image.proofs.Oldest.{changed_at, changed_if, changed_there, map-oldest, distinct_oldest}
+use Rattle.image.proofs.Oldest.{place, place_by_keys, changed_at, changed_if, changed_there, map-oldest, distinct_oldest}
 
 -- the number of a row does not change with it
 kept_key : (n : ℕ) (g : Standing → Standing) → ((s : Standing) → skey (g s) ≡ skey s) → (s : Standing) → skey (changed_if skey n no_row g s) ≡ skey s
@@ -40,26 +39,26 @@ module _ (S : Opening → Standing) (same : (A : Opening) → skey (S A) ≡ ake
   same_first : (A : Opening) → skey (first A) ≡ akey A
   same_first A = kept_key d f keep (S A) ∙ same A
 
-  pub two_changes : set (changed_at skey d no_row f (oldest S As)) (place_of c (map skey (oldest S As))) (g (get_or (changed_at skey d no_row f (oldest S As)) (place_of c (map skey (oldest S As))) no_row)) ≡ oldest (λ A. changed_if skey c no_row g (first A)) As
+  pub two_changes : set (changed_at skey d no_row f (oldest S As)) (place skey c (oldest S As)) (g (get_or (changed_at skey d no_row f (oldest S As)) (place skey c (oldest S As)) no_row)) ≡ oldest (λ A. changed_if skey c no_row g (first A)) As
   two_changes =
-      ap (λ rs. set rs (place_of c (map skey (oldest S As))) (g (get_or rs (place_of c (map skey (oldest S As))) no_row))) (one_change S same As apart d f)
-      ∙ (ap (λ ns. set (oldest first As) (place_of c ns) (g (get_or (oldest first As) (place_of c ns) no_row))) (keys S same As apart ∙ sym (keys first same_first As apart))
+      ap (λ rs. set rs (place skey c (oldest S As)) (g (get_or rs (place skey c (oldest S As)) no_row))) (one_change S same As apart d f)
+      ∙ (ap (λ i. set (oldest first As) i (g (get_or (oldest first As) i no_row))) (place_by_keys skey skey c (oldest S As) (oldest first As) (keys S same As apart ∙ sym (keys first same_first As apart)))
       ∙ one_change first same_first As apart c g)
 
 -- p more pending and q more posted from account d to account c, where both sides take it
 module _ (A : Opening) (dp dq cp cq : ℕ) (d c p q : ℕ) (ne : d ≡ c → ⊥) (fd : A.number ≡ d → dp + dq + p + q ≤ top) (fc : A.number ≡ c → cp + cq + p + q ≤ top) where
   abbrev row : Standing
-  row = record { account = A; dp = dp; dq = dq; cp = cp; cq = cq }
+  row = record { account = A; debits_pending = dp; debits_posted = dq; credits_pending = cp; credits_posted = cq }
 
-  standing_of_lem : {dp' dq' cp' cq' dp'' dq'' cp'' cq'' : ℕ} → dp' ≡ dp'' → dq' ≡ dq'' → cp' ≡ cp'' → cq' ≡ cq'' → ◌≡◌ {A = Standing} (record { account = A; dp = dp'; dq = dq'; cp = cp'; cq = cq' }) (record { account = A; dp = dp''; dq = dq''; cp = cp''; cq = cq'' })
-  standing_of_lem e1 e2 e3 e4 = λ i. record { account = A; dp = e1 i; dq = e2 i; cp = e3 i; cq = e4 i }
+  standing_of_lem : {dp' dq' cp' cq' dp'' dq'' cp'' cq'' : ℕ} → dp' ≡ dp'' → dq' ≡ dq'' → cp' ≡ cp'' → cq' ≡ cq'' → ◌≡◌ {A = Standing} (record { account = A; debits_pending = dp'; debits_posted = dq'; credits_pending = cp'; credits_posted = cq' }) (record { account = A; debits_pending = dp''; debits_posted = dq''; credits_pending = cp''; credits_posted = cq'' })
+  standing_of_lem e1 e2 e3 e4 = λ i. record { account = A; debits_pending = e1 i; debits_posted = e2 i; credits_pending = e3 i; credits_posted = e4 i }
 
   -- nothing is added to what is not concerned
   none : (m n x : ℕ) (b : Bool) → b ≡ false → n ≡ n + at b x
   none m n x b e = let z : at b x ≡ 0 = ap (λ t. at t x) e in omega arith
 
   abbrev after : Standing
-  after = record { account = A; dp = dp + at (eqb d A.number) p; dq = dq + at (eqb d A.number) q; cp = cp + at (eqb c A.number) p; cq = cq + at (eqb c A.number) q }
+  after = record { account = A; debits_pending = dp + at (eqb d A.number) p; debits_posted = dq + at (eqb d A.number) q; credits_pending = cp + at (eqb c A.number) p; credits_posted = cq + at (eqb c A.number) q }
 
   pub moved_row : changed_if skey c no_row (credited p q) (changed_if skey d no_row (debited p q) row) ≡ after
   moved_row = go (eqb A.number d) refl

@@ -1,20 +1,32 @@
 -- Lists turned round, and the place of a key in them.
-use Rattle.std.proofs.Common.{◌≡◌, ℕ, suc, ◌+◌, Bool, true, false, cond, eqb, ltb, List, [], ◌∷◌, ◌++◌, map, length, get_or, set, Some, None, Option, sym, refl, ap, ◌∙◌, add-one, arith}
-use Rattle.std.specs.List.{AllByRecursion as All}
+use Rattle.std.proofs.Common.{◌≡◌, ℕ, ◌+◌, Bool, true, false, cond, eqb, List, [], ◌∷◌, ◌++◌, map, length, get_or, set, Some, None, Option, sym, refl, ap, ◌∙◌, suc, not, arith}
+use Rattle.std.specs.List.{AllByRecursion as All, prefix_len, position_or_len}
+use Rattle.std.proofs.lemmas.List.Folds.{find_at}
 use Rattle.std.proofs.lemmas.List.{map-append, length-append}
-use Rattle.std.specs.Option.{option_map}
+use Rattle.std.specs.Option.{option_map, option_or}
 use Rattle.std.proofs.ByRecursion.{All-weaker}
-use Rattle.std.proofs.lemmas.Bool.{ne_eqb, eqb-true, lt-ltb, cond-true}
-use Rattle.std.proofs.lemmas.Bool.Decides.{nat_tests}
-use Rattle.meaning.specs.Basics.{find, or_else}
-use Rattle.balances.specs.Places.{place_of}
+use Rattle.std.proofs.lemmas.Bool.{ne_eqb, eqb-true}
+use Rattle.std.specs.Prelude.{slice_get}
+use Rattle.balances.proofs.Placing.{prefix_len-map}
 use Rattle.image.specs.Image.{oldest}
-use Rattle.laws.proofs.Finds.{Distinct}
+use Rattle.laws.proofs.Finds.{Distinct, find_by}
+
+-- the place of key n
+abbrev pub place : {Y : Type 0} → (Y → ℕ) → ℕ → List Y → ℕ
+place key n ys = position_or_len (λ y. eqb (key y) n) ys
+
+pub one_more : (n : ℕ) → 1 + n ≡ suc n
+one_more n = omega arith
+
+-- lists with the same keys have it at the same place
+pub place_by_keys : {Y Z : Type 0} (f : Y → ℕ) (g : Z → ℕ) (n : ℕ) (ys : List Y) (zs : List Z) → map f ys ≡ map g zs → place f n ys ≡ place g n zs
+place_by_keys f g n ys zs e =
+    prefix_len-map f (λ m. not (eqb m n)) ys ∙ ap (prefix_len (λ m. not (eqb m n))) e ∙ sym (prefix_len-map g (λ m. not (eqb m n)) zs)
 
 -- a change of what stands at the place of key n
 module _ {Y : Type 0} (key : Y → ℕ) (n : ℕ) (d : Y) (g : Y → Y) where
   abbrev pub changed_at : List Y → List Y
-  changed_at ys = set ys (place_of n (map key ys)) (g (get_or ys (place_of n (map key ys)) d))
+  changed_at ys = set ys (place key n ys) (g (get_or ys (place key n ys) d))
 
   abbrev pub changed_if : Y → Y
   changed_if y = cond (eqb (key y) n) (g y) y
@@ -31,42 +43,34 @@ module _ {Y : Type 0} (key : Y → ℕ) (n : ℕ) (d : Y) (g : Y → Y) where
   changed_there [] h = refl
   changed_there (y ∷ ys) h = go (eqb (key y) n) refl (changed_there ys h.1)
     where
-      go : (b : Bool) → eqb (key y) n ≡ b → changed_at ys ≡ map changed_if ys → set (y ∷ ys) (cond b 0 (place_of n (map key ys) + 1)) (g (get_or (y ∷ ys) (cond b 0 (place_of n (map key ys) + 1)) d)) ≡ cond b (g y) y ∷ map changed_if ys
+      go : (b : Bool) → eqb (key y) n ≡ b → changed_at ys ≡ map changed_if ys → set (y ∷ ys) (cond (not b) (1 + place key n ys) 0) (g (get_or (y ∷ ys) (cond (not b) (1 + place key n ys) 0) d)) ≡ cond b (g y) y ∷ map changed_if ys
       go true e ih =
           let is : key y ≡ n = eqb-true (key y) n e in
           let others = All-weaker (λ z. key z ≡ key y → ⊥) (λ z. key z ≡ n → ⊥) (λ z ne v. ne (v ∙ sym is)) ys h.0 in
           ap (λ zs. g y ∷ zs) (sym (unchanged ys others))
-      go false e ih = ap (λ m. set (y ∷ ys) m (g (get_or (y ∷ ys) m d))) (add-one (place_of n (map key ys))) ∙ ap (λ zs. y ∷ zs) ih
+      go false e ih = ap (λ m. set (y ∷ ys) m (g (get_or (y ∷ ys) m d))) (one_more (place key n ys)) ∙ ap (λ zs. y ∷ zs) ih
 
-or_none : {Y : Type 0} (o : Option Y) → or_else o None ≡ o
+or_none : {Y : Type 0} (o : Option Y) → option_or o None ≡ o
 or_none None = refl
 or_none (Some y) = refl
 
-ltb_suc : (a b : ℕ) → ltb (suc a) (suc b) ≡ ltb a b
-ltb_suc a b = grind (arith, nat_tests)
-
 -- what stands at the place of n is the first whose key is n
-module _ {Y : Type 0} (key : Y → ℕ) (n : ℕ) (d : Y) where
-  pub asked_found : (ys : List Y) → cond (ltb (place_of n (map key ys)) (length ys)) (Some (get_or ys (place_of n (map key ys)) d)) None ≡ find key n ys
-  asked_found [] = refl
-  asked_found (y ∷ ys) = go (eqb (key y) n) (asked_found ys)
-    where
-      go : (b : Bool) → cond (ltb (place_of n (map key ys)) (length ys)) (Some (get_or ys (place_of n (map key ys)) d)) None ≡ find key n ys → cond (ltb (cond b 0 (place_of n (map key ys) + 1)) (length (y ∷ ys))) (Some (get_or (y ∷ ys) (cond b 0 (place_of n (map key ys) + 1)) d)) None ≡ cond b (Some y) (find key n ys)
-      go true ih = cond-true (ltb 0 (length (y ∷ ys))) _ _ (lt-ltb 0 (length (y ∷ ys)) (omega arith))
-      go false ih = ap (λ m. cond (ltb m (length (y ∷ ys))) (Some (get_or (y ∷ ys) m d)) None) (add-one (place_of n (map key ys))) ∙ (ap (λ t. cond t (Some (get_or ys (place_of n (map key ys)) d)) None) (ltb_suc (place_of n (map key ys)) (length ys)) ∙ ih)
+module _ {Y : Type 0} (key : Y → ℕ) (n : ℕ) where
+  pub asked_found : (ys : List Y) → slice_get ys (place key n ys) ≡ find_by key n ys
+  asked_found ys = sym (find_at (λ y. eqb (key y) n) ys)
 
   -- and the last, put behind others
-  pub find_push : (ys : List Y) (y : Y) → find key n (ys ++ (y ∷ [])) ≡ or_else (find key n ys) (cond (eqb (key y) n) (Some y) None)
+  pub find_push : (ys : List Y) (y : Y) → find_by key n (ys ++ (y ∷ [])) ≡ option_or (find_by key n ys) (cond (eqb (key y) n) (Some y) None)
   find_push [] y = refl
   find_push (x ∷ ys) y = go (eqb (key x) n) (find_push ys y)
     where
-      go : (b : Bool) → find key n (ys ++ (y ∷ [])) ≡ or_else (find key n ys) (cond (eqb (key y) n) (Some y) None) → cond b (Some x) (find key n (ys ++ (y ∷ []))) ≡ or_else (cond b (Some x) (find key n ys)) (cond (eqb (key y) n) (Some y) None)
+      go : (b : Bool) → find_by key n (ys ++ (y ∷ [])) ≡ option_or (find_by key n ys) (cond (eqb (key y) n) (Some y) None) → cond b (Some x) (find_by key n (ys ++ (y ∷ []))) ≡ option_or (cond b (Some x) (find_by key n ys)) (cond (eqb (key y) n) (Some y) None)
       go true ih = refl
       go false ih = ih
 
-  pub find_missing : (ys : List Y) → All (λ y. key y ≡ n → ⊥) ys → find key n ys ≡ None
+  pub find_missing : (ys : List Y) → All (λ y. key y ≡ n → ⊥) ys → find_by key n ys ≡ None
   find_missing [] h = refl
-  find_missing (y ∷ ys) h = let no : eqb (key y) n ≡ false = ne_eqb (key y) n h.0 in ap (λ b. cond b (Some y) (find key n ys)) no ∙ find_missing ys h.1
+  find_missing (y ∷ ys) h = let no : eqb (key y) n ≡ false = ne_eqb (key y) n h.0 in ap (λ b. cond b (Some y) (find_by key n ys)) no ∙ find_missing ys h.1
 
 module _ {X Y : Type 0} (f : X → Y) where
   pub map-oldest : {Z : Type 0} (g : Y → Z) (xs : List X) → map g (oldest f xs) ≡ oldest (λ x. g (f x)) xs
@@ -104,13 +108,13 @@ module _ {X Y : Type 0} (f : X → Y) where
             last (z ∷ zs) b = (b.0, last zs b.1)
 
     -- the one whose key is n is found in either order
-    pub find-oldest : (n : ℕ) (xs : List X) → Distinct k xs → find key n (oldest f xs) ≡ option_map f (find k n xs)
+    pub find-oldest : (n : ℕ) (xs : List X) → Distinct k xs → find_by key n (oldest f xs) ≡ option_map f (find_by k n xs)
     find-oldest n [] h = refl
-    find-oldest n (x ∷ xs) h = find_push key n (f x) (oldest f xs) (f x) ∙ (ap (λ m. or_else (find key n (oldest f xs)) (cond (eqb m n) (Some (f x)) None)) (same x) ∙ go (eqb (k x) n) refl (find-oldest n xs h.1))
+    find-oldest n (x ∷ xs) h = find_push key n (oldest f xs) (f x) ∙ (ap (λ m. option_or (find_by key n (oldest f xs)) (cond (eqb m n) (Some (f x)) None)) (same x) ∙ go (eqb (k x) n) refl (find-oldest n xs h.1))
       where
-        go : (b : Bool) → eqb (k x) n ≡ b → find key n (oldest f xs) ≡ option_map f (find k n xs) → or_else (find key n (oldest f xs)) (cond b (Some (f x)) None) ≡ option_map f (cond b (Some x) (find k n xs))
+        go : (b : Bool) → eqb (k x) n ≡ b → find_by key n (oldest f xs) ≡ option_map f (find_by k n xs) → option_or (find_by key n (oldest f xs)) (cond b (Some (f x)) None) ≡ option_map f (cond b (Some x) (find_by k n xs))
         go true e ih =
             let is : k x ≡ n = eqb-true (k x) n e in
-            let none = find_missing k n x xs (All-weaker (λ z. k z ≡ k x → ⊥) (λ z. k z ≡ n → ⊥) (λ z ne v. ne (v ∙ sym is)) xs h.0) in
-            ap (λ o. or_else o (Some (f x))) (ih ∙ ap (option_map f) none)
-        go false e ih = or_none (find key n (oldest f xs)) ∙ ih
+            let none = find_missing k n xs (All-weaker (λ z. k z ≡ k x → ⊥) (λ z. k z ≡ n → ⊥) (λ z ne v. ne (v ∙ sym is)) xs h.0) in
+            ap (λ o. option_or o (Some (f x))) (ih ∙ ap (option_map f) none)
+        go false e ih = or_none (find_by key n (oldest f xs)) ∙ ih

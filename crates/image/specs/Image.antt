@@ -1,5 +1,6 @@
 -- What the tables hold for a journal J and a moment T, and that openings, legs and lapses keep it.
 use Rattle.std.specs.Prelude.{◌≡◌, ℕ, zero, suc, ◌≤◌, Bool, false, ◌&&◌, List, [], ◌∷◌, ◌++◌, map, None, nat_lt}
+use Rattle.std.specs.List.{filter}
 use Rattle.meaning.specs.declared.content.Content.TheVariants.{Transfer, Reserve, Post, Void}
 use Rattle.meaning.specs.declared.content.Content.{Content}
 use Rattle.meaning.specs.declared.record.Record.{Record}
@@ -7,7 +8,7 @@ use Rattle.meaning.specs.declared.opening.Opening.{Opening}
 use Rattle.meaning.specs.declared.reservation.Reservation.{Reservation}
 use Rattle.meaning.specs.declared.fate.Fate.TheVariants.{Live}
 use Rattle.meaning.specs.declared.fate.Event.TheVariants.{Post as posting, Void as voiding}
-use Rattle.meaning.specs.Basics.{those, in_order}
+use Rattle.meaning.specs.Basics.{in_order}
 use Rattle.meaning.specs.Given.{Journal, Reserved, accounts, reservations, fate, is_live, due, highest}
 use Rattle.meaning.specs.Rules.{Policy, opening_refused, opening_writes, refused}
 use Rattle.meaning.specs.Questions.{standing, with_fate, account_asked, reservation_asked}
@@ -33,7 +34,7 @@ image_of J T = record {
   rows = oldest (standing J T) (accounts J);
   held = oldest (with_fate J T) (reservations J);
   highest = highest J;
-  queue = in_order due_before (map due_of (those (waiting J T) (reservations J)));
+  queue = in_order due_before (map due_of (filter (waiting J T) (reservations J)));
   lines = in_order line_before (map line_of (accounts J));
 }
 
@@ -54,7 +55,7 @@ pub record Asks (J : Journal) (T : ℕ) : Type 0 where
   pub account : (a : ℕ) → row_asked (image_of J T) a ≡ account_asked J T a
   pub reservation : (r : ℕ) → held_asked (image_of J T) r ≡ reservation_asked J T r
 
-pub record Keeps (policy : Policy) (J : Journal) (T : ℕ) : Type 0 where
+pub record KeepsImage (policy : Policy) (J : Journal) (T : ℕ) : Type 0 where
   pub asks : Asks J T
   pub by_opening : (full : Bool) (A : Opening) → opening_refused policy J full A ≡ None → opened_with (standing J T A) (image_of J T) ≡ image_of (opening_writes T A ∷ J) T
   pub by_transfer : (n : ℕ) (l : Bool) (d c z : ℕ) → refused policy J T n (Transfer d c z) ≡ None → transferred n d c z (image_of J T) ≡ image_of (entry n l T (Transfer d c z) ∷ J) T
@@ -64,4 +65,4 @@ pub record Keeps (policy : Policy) (J : Journal) (T : ℕ) : Type 0 where
   pub by_lapses : (t n : ℕ) → T ≤ t → due_count t (image_of J T).queue ≤ n → lapses n t (image_of J T) ≡ image_of J t
 
 abbrev pub ImageKeeps : Type 0
-ImageKeeps = (policy : Policy) (J : Journal) → Reads policy J → (T : ℕ) → Keeps policy J T
+ImageKeeps = (policy : Policy) (J : Journal) → Reads policy J → (T : ℕ) → KeepsImage policy J T

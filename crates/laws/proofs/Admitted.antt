@@ -3,14 +3,14 @@ use Rattle.std.proofs.Common.{◌≡◌, ℕ, ◌+◌, ◌-◌, ◌≤◌, Bool,
 use Rattle.meaning.specs.declared.content.Content.{Content}
 use Rattle.meaning.specs.declared.content.Content.TheVariants.{Account, Transfer, Reserve, Post, Void}
 use Rattle.meaning.specs.declared.opening.Opening.{Opening}
-use Rattle.meaning.specs.Basics.{at, find}
-use Rattle.meaning.specs.Given.{Journal, Reserved, accounts, reservations, the_account, fate, is_live, due, Side, debits, credits, pending, Movement, movements, posted, latest, highest}
-use Rattle.meaning.specs.Rules.{Policy, number_refused, amount_refused, parties_refused, refused}
+use Rattle.meaning.specs.Basics.{at}
+use Rattle.meaning.specs.Given.{Journal, Reserved, accounts, reservations, the_account, fate, is_live, due, Side, debits, credits, pending, Movement, movements, posted, latest}
+use Rattle.meaning.specs.Rules.{Policy, refused}
 use Rattle.laws.specs.Steps.{Reads, falling}
 use Rattle.meaning.specs.Policies.{Lawful}
 use Rattle.laws.specs.Kept.{Holds, Admitted}
-use Rattle.laws.proofs.Finds.{find_key}
-use Rattle.laws.proofs.Passes.{both_none, Moves, parties_known, opening_passes, reads_prefix, reads_rules, reads_moment}
+use Rattle.laws.proofs.Finds.{find_key, find_by}
+use Rattle.laws.proofs.Passes.{Moves, movement_passes, reserve_passes, opening_passes, reads_prefix, reads_rules, reads_moment}
 use Rattle.laws.proofs.Numbered.{entry, Numbered, numbered}
 use Rattle.laws.proofs.Known.{akey, Known, known, through_none}
 use Rattle.laws.proofs.Totals.{step, lapse}
@@ -37,8 +37,8 @@ module _ (policy : Policy) (law : Lawful policy) where
   admitted_later J T T' le H a A is =
       holds_less (falling J T T' debits a) 0 (falling J T T' credits a) 0 (H a A is) (lapse J T T' le debits a) (omega arith) (omega arith) (lapse J T T' le credits a) (omega arith) (omega arith)
 
-  module _ (As : List Opening) (P Q : Side → ℕ → ℕ) (p q d c : ℕ) (D C : Opening) (M : Moves policy P Q p q D C) (is_d : find akey d As ≡ Some D) (is_c : find akey c As ≡ Some C) where
-    holds_move : (a : ℕ) (A : Opening) → find akey a As ≡ Some A → Holds policy A (P debits a) (Q debits a) (P credits a) (Q credits a) → Holds policy A (P debits a + at (eqb d a) p) (Q debits a + at (eqb d a) q) (P credits a + at (eqb c a) p) (Q credits a + at (eqb c a) q)
+  module _ (As : List Opening) (P Q : Side → ℕ → ℕ) (p q d c : ℕ) (D C : Opening) (M : Moves policy P Q p q D C) (is_d : find_by akey d As ≡ Some D) (is_c : find_by akey c As ≡ Some C) where
+    holds_move : (a : ℕ) (A : Opening) → find_by akey a As ≡ Some A → Holds policy A (P debits a) (Q debits a) (P credits a) (Q credits a) → Holds policy A (P debits a + at (eqb d a) p) (Q debits a + at (eqb d a) q) (P credits a + at (eqb c a) p) (Q credits a + at (eqb c a) q)
     holds_move a A is_a H = go (eqb d a) refl (eqb c a) refl
       where
         go : (b : Bool) → eqb d a ≡ b → (b' : Bool) → eqb c a ≡ b' → Holds policy A (P debits a + at b p) (Q debits a + at b q) (P credits a + at b' p) (Q credits a + at b' q)
@@ -48,7 +48,7 @@ module _ (policy : Policy) (law : Lawful policy) where
             absurd (M.apart (grind arith))
         go true e false e' =
             let v : d ≡ a = grind arith in
-            let f = ap (λ x. find akey x As) v in
+            let f = ap (λ x. find_by akey x As) v in
             let DA : D ≡ A = cc in
             let n : D.number ≡ a = find_key akey d As D is_d ∙ v in
             let z1 : P credits a + 0 ≡ P credits a = omega arith in
@@ -59,7 +59,7 @@ module _ (policy : Policy) (law : Lawful policy) where
             record { admits = cc; debits_fit = omega (arith, M.debit_fits); credits_fit = omega (arith, H.credits_fit) }
         go false e true e' =
             let v : c ≡ a = grind arith in
-            let f = ap (λ x. find akey x As) v in
+            let f = ap (λ x. find_by akey x As) v in
             let CA : C ≡ A = cc in
             let n : C.number ≡ a = find_key akey c As C is_c ∙ v in
             let z1 : P debits a + 0 ≡ P debits a = omega arith in
@@ -96,19 +96,16 @@ module _ (policy : Policy) (law : Lawful policy) where
             holds_same Z (zp debits) (zq debits) (zp credits) (zq credits)
         go false q s = H a A s
     admitted_more (Transfer d c z) e a A is =
-        let h = (both_none (number_refused (highest J) n) _ e).1 in
-        let m = parties_known policy J t 0 z (the_account J d) (the_account J c) (both_none (amount_refused z) _ h).1 in
+        let m = movement_passes policy J t n d c 0 z e in
         let st = step policy J t n l t (Transfer d c z) N e in
-        holds_same (holds_move (accounts J) (pending J t) (posted J) 0 z d c m.0 m.1 m.4 m.2 m.3 a A is (H a A is)) (grind arith) (omega arith) (grind arith) (omega arith)
+        holds_same (holds_move (accounts J) (pending J t) (posted J) 0 z d c m.debit m.credit m.moves m.is_debit m.is_credit a A is (H a A is)) (grind arith) (omega arith) (grind arith) (omega arith)
     admitted_more (Reserve d c z u) e a A is =
-        let h = (both_none (number_refused (highest J) n) _ e).1 in
-        let r = (both_none (amount_refused z) _ h).1 in
-        let m = parties_known policy J t z 0 (the_account J d) (the_account J c) (both_none (parties_refused policy J t z 0 (the_account J d) (the_account J c)) _ r).0 in
+        let m = reserve_passes policy J t n d c z u e in
         let st = step policy J t n l t (Reserve d c z u) N e in
         let sd = (st debits a).0 in
         let sc = (st credits a).0 in
         holds_less (at (due u t) (at (eqb d a) z)) 0 (at (due u t) (at (eqb c a) z)) 0
-        (holds_move (accounts J) (pending J t) (posted J) z 0 d c m.0 m.1 m.4 m.2 m.3 a A is (H a A is)) (grind arith) (grind arith) (omega arith) (grind arith) (grind arith) (omega arith)
+        (holds_move (accounts J) (pending J t) (posted J) z 0 d c m.debit m.credit m.moves m.is_debit m.is_credit a A is (H a A is)) (grind arith) (grind arith) (omega arith) (grind arith) (grind arith) (omega arith)
     admitted_more (Post r z) e a A is =
         let st = step policy J t n l t (Post r z) N e in
         let R = st.0 in

@@ -2,17 +2,17 @@
 use Rattle.std.proofs.Common.{◌≡◌, ℕ, eqb, List, [], ◌∷◌, Some, refl, ap, arith}
 use Rattle.std.specs.List.{AllByRecursion as All}
 use Rattle.meaning.specs.declared.opening.Opening.{Opening}
-use Rattle.meaning.specs.Basics.{at, sum_of, find}
+use Rattle.meaning.specs.Basics.{at, sum_of}
 use Rattle.meaning.specs.Given.{Journal, Reserved, accounts, reservations, fate, is_live, debits, credits, through, Movement, movements}
 use Rattle.meaning.specs.Rules.{Policy}
 use Rattle.laws.specs.Steps.{Reads}
 use Rattle.laws.specs.Kept.{Balanced}
-use Rattle.laws.proofs.Finds.{Distinct, sum_less, sum_add, sum_zero, find_key}
+use Rattle.laws.proofs.Finds.{Distinct, sum_less, sum_add, sum_zero, find_key, find_by}
 use Rattle.laws.proofs.Known.{akey, Pair, known}
 
 module _ (As : List Opening) (apart : Distinct akey As) (L : ℕ) where
   -- one amount at one account
-  sum_one : (d z : ℕ) (D : Opening) → find akey d As ≡ Some D → sum_of (λ A. at (eqb A.ledger L) (at (eqb d A.number) z)) As ≡ at (eqb D.ledger L) z
+  sum_one : (d z : ℕ) (D : Opening) → find_by akey d As ≡ Some D → sum_of (λ A. at (eqb A.ledger L) (at (eqb d A.number) z)) As ≡ at (eqb D.ledger L) z
   sum_one d z D is =
       let k : D.number ≡ d = find_key akey d As D is in
       let h = sum_less akey d (λ A. at (eqb A.ledger L) (at (eqb d A.number) z)) (λ A. 0) As D apart is (λ A ne. grind arith) refl in

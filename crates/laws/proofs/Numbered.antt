@@ -10,7 +10,7 @@ use Rattle.meaning.specs.Given.{Journal, Reserved, reservations, the_reservation
 use Rattle.meaning.specs.Rules.{Policy, number_refused, refused}
 use Rattle.laws.specs.Steps.{Reads}
 use Rattle.laws.proofs.Finds.{Distinct, find_key, find_all}
-use Rattle.laws.proofs.Passes.{both_none, number_above, post_open, void_open, reads_prefix, reads_rules}
+use Rattle.laws.proofs.Passes.{both_none, reserve_passes, post_open, void_open, reads_prefix, reads_rules}
 
 abbrev pub key : Reserved → ℕ
 key R = R.number
@@ -31,7 +31,7 @@ module _ (policy : Policy) (J : Journal) (n : ℕ) (l : Bool) (t : ℕ) where
   numbered_more (Account x y z w) S e = record { below = S.below; distinct = S.distinct; unclosed = S.unclosed }
   numbered_more (Transfer d c z) S e = record { below = higher (max (highest J) n) (omega arith) _ S.below; distinct = S.distinct; unclosed = λ r h. S.unclosed r (omega arith) }
   numbered_more (Reserve d c z u) S e =
-      let lt : highest J < n = number_above policy J t n (both_none (number_refused (highest J) n) _ e).0 in
+      let lt : highest J < n = (reserve_passes policy J t n d c z u e).above in
       record {
         below = (omega arith, higher (max (highest J) n) (omega arith) _ S.below);
         distinct = (All-weaker (λ R. R.number ≤ highest J) (λ R. R.number ≡ n → ⊥) (λ R w v. omega arith) _ S.below, S.distinct);

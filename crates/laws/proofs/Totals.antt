@@ -4,11 +4,11 @@ use Rattle.meaning.specs.declared.content.Content.{Content}
 use Rattle.meaning.specs.declared.content.Content.TheVariants.{Account, Transfer, Reserve, Post, Void}
 use Rattle.meaning.specs.declared.fate.Fate.TheVariants.{Live}
 use Rattle.meaning.specs.Basics.{at}
-use Rattle.meaning.specs.Given.{Journal, Reserved, reservations, the_reservation, fate, is_live, ended, Side, pick, through, pending, Movement, post_in, movements, posted, highest}
+use Rattle.meaning.specs.Given.{Journal, Reserved, reservations, the_reservation, fate, is_live, ended, Side, pick, through, pending, Movement, with_post, movements, posted, highest}
 use Rattle.meaning.specs.Rules.{Policy, number_refused, refused}
 use Rattle.laws.specs.Steps.{Reads, Step, falling, Stepwise}
 use Rattle.laws.proofs.Finds.{Distinct, sum_add, sum_less, find_key}
-use Rattle.laws.proofs.Passes.{both_none, number_above, post_open, void_open}
+use Rattle.laws.proofs.Passes.{both_none, reserve_passes, post_open, void_open}
 use Rattle.laws.proofs.Numbered.{key, entry, Numbered, numbered}
 
 -- what a post or a void takes from what is pending
@@ -31,12 +31,12 @@ module _ (policy : Policy) (J : Journal) (T n : ℕ) (l : Bool) (t : ℕ) where
   step (Account x y z w) S e = λ s a. (refl, refl)
   step (Transfer d c z) S e = λ s a. (refl, omega arith)
   step (Reserve d c z u) S e =
-      let lt : highest J < n = number_above policy J T n (both_none (number_refused (highest J) n) _ e).0 in
+      let lt : highest J < n = (reserve_passes policy J T n d c z u e).above in
       let o : ended J n ≡ Live = S.unclosed n lt in
       λ s a. (grind arith, refl)
   step (Post r z) S e =
       let p = post_open policy J T z (the_reservation J r) (both_none (number_refused (highest J) n) _ e).1 in
-      (p.0, record { found = p.1; live = p.2 }, p.3, λ s a. (pending_post J T s a n l t r p.0 S.distinct p.1 p.2 z, ap (λ o. through (λ (M : Movement). M.debit) (λ M. M.credit) (λ M. M.amount) (post_in o z (movements J)) s a) p.1 ∙ omega arith))
+      (p.0, record { found = p.1; live = p.2 }, p.3, λ s a. (pending_post J T s a n l t r p.0 S.distinct p.1 p.2 z, ap (λ o. through (λ (M : Movement). M.debit) (λ M. M.credit) (λ M. M.amount) (with_post o z (movements J)) s a) p.1 ∙ omega arith))
   step (Void r) S e =
       let p = void_open policy J T (the_reservation J r) (both_none (number_refused (highest J) n) _ e).1 in
       (p.0, record { found = p.1; live = p.2 }, λ s a. (pending_void J T s a n l t r p.0 S.distinct p.1 p.2, refl))

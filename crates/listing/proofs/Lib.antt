@@ -1,4 +1,5 @@
 pub mod Writing
+pub mod Coming
 pub mod Row
 pub mod Room
 pub mod Totals

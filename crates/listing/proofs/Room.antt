@@ -5,15 +5,15 @@ use Rattle.std.proofs.lemmas.List.{take-append-drop, take_all, take_at, take_mor
 use Rattle.std.specs.Borrow.{MutBor}
 use Rattle.meaning.specs.Calls.{over}
 use Rattle.listing.specs.declared.page.Page.{Page}
-use Rattle.listing.specs.Pages.{empty, with_byte, written}
+use Rattle.listing.specs.Pages.{new_page, with_byte, with_bytes}
 
 -- the place of the next byte, whatever the buffer
-pub next_is : (bs : List ℕ) (p : Page) → p.next < 2 ^ 64 → (written bs p).next ≡ min (p.next + length bs) (2 ^ 64 - 1)
+pub next_is : (bs : List ℕ) (p : Page) → p.next < 2 ^ 64 → (with_bytes bs p).next ≡ min (p.next + length bs) (2 ^ 64 - 1)
 next_is [] p h = omega arith
 next_is (b ∷ bs) p h = omega (arith, next_is bs (with_byte b p) (omega arith))
 
 -- the buffer stays the same one
-pub home_is : (bs : List ℕ) (p : Page) → (written bs p).bytes.ghost_name ≡ p.bytes.ghost_name
+pub home_is : (bs : List ℕ) (p : Page) → (with_bytes bs p).bytes.ghost_name ≡ p.bytes.ghost_name
 home_is [] p = refl
 home_is (b ∷ bs) p = home_is bs (with_byte b p)
 
@@ -34,24 +34,24 @@ laid_more b bs i m here =
     ∙ ap (take (length m)) (append_assoc (take i m) (b ∷ []) _)
     ∙ ap (λ r. take (length m) (take i m ++ (b ∷ (bs ++ r)))) (back ∙ ap (λ j. drop j m) end)
 
-written_laid : (bs : List ℕ) (p : Page) → length p.bytes.now < 2 ^ 64 - 1 → (written bs p).bytes.now ≡ laid bs p.next p.bytes.now
-written_laid [] p fits =
+bytes_laid : (bs : List ℕ) (p : Page) → length p.bytes.now < 2 ^ 64 - 1 → (with_bytes bs p).bytes.now ≡ laid bs p.next p.bytes.now
+bytes_laid [] p fits =
     let m = p.bytes.now in
     sym (ap (λ n. take (length m) (take p.next m ++ drop n m)) (add-zero p.next) ∙ ap (take (length m)) (take-append-drop p.next m) ∙ take_all (length m) m (omega arith))
-written_laid (b ∷ bs) p fits =
+bytes_laid (b ∷ bs) p fits =
     let m = p.bytes.now in
     let i = p.next in
     let q = with_byte b p in
     let long = length-set m i b in
-    written_laid bs q (omega arith)
+    bytes_laid bs q (omega arith)
     ∙ ⊎_elim
     (λ here. ap (λ j. laid bs j (set m i b)) (omega arith) ∙ laid_more b bs i m here)
     (λ past. ap (laid bs q.next) (set_past m i b past) ∙ laid_past bs q.next m (omega arith) ∙ sym (laid_past (b ∷ bs) i m past))
     (cases_lt i (length m))
 
 -- from the first byte on, what is written stands over what was there, as far as there is room
-pub written_over : (bs : List ℕ) (m : MutBor (List ℕ)) → length m.now < 2 ^ 64 - 1 → (written bs (empty m)).bytes.now ≡ take (length m.now) (over bs m.now)
-written_over bs m fits = written_laid bs (empty m) fits ∙ ap (λ n. take (length m.now) (bs ++ drop n m.now)) (zero-add (length bs))
+pub bytes_over : (bs : List ℕ) (m : MutBor (List ℕ)) → length m.now < 2 ^ 64 - 1 → (with_bytes bs (new_page m)).bytes.now ≡ take (length m.now) (over bs m.now)
+bytes_over bs m fits = bytes_laid bs (new_page m) fits ∙ ap (λ n. take (length m.now) (bs ++ drop n m.now)) (zero-add (length bs))
 
 pub over_whole : (bs m : List ℕ) → length bs ≤ length m → take (length m) (over bs m) ≡ over bs m
 over_whole bs m room =

@@ -4,7 +4,8 @@ use Rattle.std.specs.List.{AllByRecursion as All}
 use Rattle.meaning.specs.declared.opening.Opening.{Opening}
 use Rattle.meaning.specs.Basics.{at, sum_of, put, in_order}
 use Rattle.meaning.specs.Given.{Journal}
-use Rattle.meaning.specs.Questions.{Standing, standing}
+use Rattle.meaning.specs.declared.standing.Standing.{Standing}
+use Rattle.meaning.specs.Questions.{standing}
 use Rattle.ordered.specs.Keyed.{line_of}
 use Rattle.balances.specs.Books.{Books, row_asked}
 use Rattle.balances.specs.Judged.{sum}

@@ -3,24 +3,25 @@ use Rattle.std.proofs.Common.{◌≡◌, ℕ, ◌^◌, ◌<◌, List, [], ◌∷
 use Rattle.std.specs.List.{AllByRecursion as All}
 use Rattle.meaning.specs.declared.account.Account.{Account}
 use Rattle.meaning.specs.Given.{Journal, accounts}
-use Rattle.meaning.specs.Questions.{Standing, standing}
+use Rattle.meaning.specs.declared.standing.Standing.{Standing}
+use Rattle.meaning.specs.Questions.{standing}
 use Rattle.meaning.specs.Rows.{standing_of}
 use Rattle.balances.specs.declared.balances.Balances.{Balances}
 use Rattle.balances.specs.Books.{Books, books_of}
 use Rattle.image.specs.Image.{oldest, image_of}
 
 pub record Small (s : Standing) : Type 0 where
-  pub dp : s.dp < 2 ^ 56
-  pub dq : s.dq < 2 ^ 56
-  pub cp : s.cp < 2 ^ 56
-  pub cq : s.cq < 2 ^ 56
+  pub debits_pending : s.debits_pending < 2 ^ 56
+  pub debits_posted : s.debits_posted < 2 ^ 56
+  pub credits_pending : s.credits_pending < 2 ^ 56
+  pub credits_posted : s.credits_posted < 2 ^ 56
 
 all_small : (as' : List Account) → All Small (map standing_of as')
 all_small [] = tt
 all_small (a ∷ as') =
     let d = a.totals.debits.fits in
     let c = a.totals.credits.fits in
-    (record { dp = omega arith; dq = omega arith; cp = omega arith; cq = omega arith }, all_small as')
+    (record { debits_pending = omega arith; debits_posted = omega arith; credits_pending = omega arith; credits_posted = omega arith }, all_small as')
 
 module _ {X : Type 0} (P : X → Type 0) where
   all_parts : (xs ys : List X) → All P (xs ++ ys) → All P xs × All P ys

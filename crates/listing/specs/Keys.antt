@@ -4,5 +4,5 @@ use Rattle.ordered.specs.declared.line.Line.{Line}
 use Rattle.balances.specs.Books.{books_of}
 use Rattle.listing.specs.declared.keys.Keys.{Keys}
 
-abbrev pub left : Keys → List Line
-left s = drop s.place (books_of s.balances.now).lines
+abbrev pub to_come : Keys → List Line
+to_come s = drop s.place (books_of s.balances.now).lines

@@ -1,5 +1,4 @@
 pub mod Pages
-pub mod Letters
 pub mod Keys
 pub mod Sums
 pub mod Lines

@@ -1,6 +1,6 @@
 -- The sums of a ledger's accounts, over the keys of the listing's lines.
 use Rattle.std.specs.Prelude.{ℕ, cond, List, [], ◌∷◌, Some, None, Option, ◌==◌}
-use Rattle.meaning.specs.Questions.{Standing}
+use Rattle.meaning.specs.declared.standing.Standing.{Standing}
 use Rattle.ordered.specs.declared.line.Line.{Line}
 use Rattle.balances.specs.Books.{Books, row_asked}
 use Rattle.balances.specs.Judged.{sum}
@@ -13,10 +13,10 @@ no_sums = record { accounts = 0; debits_pending = 0; debits_posted = 0; credits_
 abbrev pub plus : Standing → Sums → Sums
 plus a s = record {
   accounts = sum s.accounts 1;
-  debits_pending = sum s.debits_pending a.dp;
-  debits_posted = sum s.debits_posted a.dq;
-  credits_pending = sum s.credits_pending a.cp;
-  credits_posted = sum s.credits_posted a.cq;
+  debits_pending = sum s.debits_pending a.debits_pending;
+  debits_posted = sum s.debits_posted a.debits_posted;
+  credits_pending = sum s.credits_pending a.credits_pending;
+  credits_posted = sum s.credits_posted a.credits_posted;
 }
 
 abbrev pub plus_if : Option Standing → Sums → Sums

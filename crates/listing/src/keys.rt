@@ -3,7 +3,7 @@
 ghost use Rattle.std.specs.Prelude.{◌≡◌};
 ghost use Rattle.std.specs.Iterator.{YieldsFirst, item_count};
 ghost use Rattle.balances.specs.Books.{books_of};
-ghost use Rattle.listing.specs.Keys.{left};
+ghost use Rattle.listing.specs.Keys.{to_come};
 ghost use Rattle.listing.specs.Lines.{ends_in};
 
 use balances::Balances;
@@ -17,14 +17,15 @@ pub(crate) struct Keys<'a> {
 
 impl<'a> Keys<'a> {
     pub(crate) fn new(balances: &'a Balances) -> Keys<'a>
-        ensures { left result ≡ (books_of balances.now).lines }
+        ensures { to_come result ≡ (books_of balances.now).lines }
     {
         Keys { balances, place: 0 }
     }
 
     // Whether no key of the ledger comes next.
+    #[tactic(auto, using(crate::proofs::Coming::next_is, crate::proofs::Coming::none_left))]
     pub(crate) fn ends(&self, ledger: u16) -> bool
-        ensures { result ≡ ends_in ledger (left self.now) }
+        ensures { result ≡ ends_in ledger (to_come self.now) }
     {
         self.balances
             .line_at(self.place)
@@ -35,10 +36,11 @@ impl<'a> Keys<'a> {
 impl Iterator for Keys<'_> {
     type Item = Line;
 
-    ghost next_gives = { YieldsFirst left };
+    ghost next_gives = { YieldsFirst to_come };
 
-    ghost remaining = { item_count left };
+    ghost remaining = { item_count to_come };
 
+    #[tactic(auto, using(crate::proofs::Coming::next_is, crate::proofs::Coming::none_left))]
     fn next(&mut self) -> Option<Line> {
         let key = self.balances.line_at(self.place)?;
         self.place += 1;

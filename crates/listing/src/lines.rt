@@ -2,9 +2,10 @@
 ghost use Rattle.std.specs.Prelude.{◌≡◌, ◌-◌, ◌^◌, min, length, take};
 ghost use Rattle.meaning.specs.Rows.{standing_of};
 ghost use Rattle.meaning.specs.Calls.{over};
+ghost use Rattle.meaning.specs.Listing.{account_line};
 ghost use Rattle.balances.specs.Books.{books_of};
-ghost use Rattle.listing.specs.Pages.{written};
-ghost use Rattle.listing.specs.Lines.{account_bytes, sum_bytes, key_bytes, keys_bytes};
+ghost use Rattle.listing.specs.Pages.{with_bytes};
+ghost use Rattle.listing.specs.Lines.{sum_bytes, key_bytes, keys_bytes};
 
 use crate::keys::Keys;
 use crate::page::Page;
@@ -15,9 +16,9 @@ use ordered::Line;
 
 impl Page<'_> {
     // `7 MILL 2 0 250 0 900`
-    #[tactic(auto, unfolding(crate::specs::Lines::account_bytes))]
+    #[tactic(auto, unfolding(meaning::specs::Listing::account_line))]
     fn account(&mut self, account: &Account)
-        ensures { self.new ≡ written (account_bytes (standing_of account.now)) self.old }
+        ensures { self.new ≡ with_bytes (account_line (standing_of account.now)) self.old }
     {
         let debits = &account.totals.debits;
         let credits = &account.totals.credits;
@@ -35,9 +36,9 @@ impl Page<'_> {
     }
 
     // `7 = 3 0 1150 0 1150`
-    #[tactic(auto, unfolding(crate::specs::Lines::sum_bytes, crate::specs::Letters::letters_in))]
+    #[tactic(auto, unfolding(crate::specs::Lines::sum_bytes, meaning::specs::Listing::letters_in))]
     fn sums(&mut self, ledger: u16, sums: &Sums)
-        ensures { self.new ≡ written (sum_bytes ledger sums.now) self.old }
+        ensures { self.new ≡ with_bytes (sum_bytes ledger sums.now) self.old }
     {
         self.line(
             ledger,
@@ -54,7 +55,7 @@ impl Page<'_> {
 
     // The line of a key's account.
     fn key(&mut self, balances: &Balances, key: &Line)
-        ensures { self.new ≡ written (key_bytes (books_of balances.now) key.now) self.old }
+        ensures { self.new ≡ with_bytes (key_bytes (books_of balances.now) key.now) self.old }
     {
         if let Some(account) = balances.account(key.number) {
             self.account(&account);
@@ -63,7 +64,7 @@ impl Page<'_> {
 
     // A line for each key, and a sum line where a ledger ends.
     fn keys(&mut self, balances: &Balances)
-        ensures { self.new ≡ written (keys_bytes (books_of balances.now) (books_of balances.now).lines) self.old }
+        ensures { self.new ≡ with_bytes (keys_bytes (books_of balances.now) (books_of balances.now).lines) self.old }
     {
         let mut keys = Keys::new(balances);
         // `ends` looks at the key that follows, so the keys are taken one by one.

@@ -1,8 +1,7 @@
 // A text, written byte by byte into a buffer as far as it has room.
 ghost use Rattle.std.specs.Prelude.{◌≡◌, [], ◌∷◌, decimal};
-ghost use Rattle.meaning.specs.Listing.{fields, line_bytes};
-ghost use Rattle.listing.specs.Letters.{letters_in};
-ghost use Rattle.listing.specs.Pages.{empty, written};
+ghost use Rattle.meaning.specs.Listing.{fields, line_bytes, letters_in};
+ghost use Rattle.listing.specs.Pages.{new_page, with_bytes};
 
 // What fills a label to eight bytes.
 const FILLING: u8 = b' ';
@@ -17,7 +16,7 @@ pub(crate) struct Page<'a> {
 impl<'a> Page<'a> {
     // An empty text.
     pub(crate) fn new(bytes: &'a mut [u8]) -> Page<'a>
-        ensures { result ≡ empty bytes.entry }
+        ensures { result ≡ new_page bytes.entry }
     {
         Page { bytes, next: 0 }
     }
@@ -31,7 +30,7 @@ impl<'a> Page<'a> {
 
     // A byte behind the buffer's end is only counted. `get_mut` needs as many lines, and a proof of its own.
     fn byte(&mut self, byte: u8)
-        ensures { self.new ≡ written (byte ∷ []) self.old }
+        ensures { self.new ≡ with_bytes (byte ∷ []) self.old }
     {
         if self.next < self.bytes.len() {
             self.bytes[self.next] = byte;
@@ -42,7 +41,7 @@ impl<'a> Page<'a> {
     // A number in decimal digits, without leading zeros.
     // By hand, since the contract of `write!` does not say when it answers `Ok`.
     fn decimal(&mut self, number: u64)
-        ensures { self.new ≡ written (decimal number) self.old }
+        ensures { self.new ≡ with_bytes (decimal number) self.old }
     {
         if number >= 10 {
             self.decimal(number / 10);
@@ -52,7 +51,7 @@ impl<'a> Page<'a> {
 
     // A space and a number, for each of the numbers.
     fn fields(&mut self, numbers: &[u64])
-        ensures { self.new ≡ written (fields numbers.now) self.old }
+        ensures { self.new ≡ with_bytes (fields numbers.now) self.old }
     {
         for number in numbers {
             self.byte(b' ');
@@ -62,7 +61,7 @@ impl<'a> Page<'a> {
 
     // The letters of a name, without its filling.
     fn letters(&mut self, name: &[u8])
-        ensures { self.new ≡ written (letters_in name.now) self.old }
+        ensures { self.new ≡ with_bytes (letters_in name.now) self.old }
     {
         for byte in name {
             if *byte != FILLING {
@@ -73,7 +72,7 @@ impl<'a> Page<'a> {
 
     // `7 MILL 2 0 250 0 900`
     pub(crate) fn line(&mut self, ledger: u16, name: &[u8], numbers: &[u64])
-        ensures { self.new ≡ written (line_bytes ledger (letters_in name.now) numbers.now) self.old }
+        ensures { self.new ≡ with_bytes (line_bytes ledger (letters_in name.now) numbers.now) self.old }
     {
         self.decimal(u64::from(ledger));
         self.byte(b' ');

@@ -1,24 +1,15 @@
--- Words on lists that the definitions share: sums, look-ups, filters and an order.
-use Rattle.std.specs.Prelude.{ℕ, ◌+◌, Bool, cond, List, [], ◌∷◌, Some, None, Option, ◌==◌}
+-- Words on lists that the definitions share: sums, an order, and the first check that holds.
+use Rattle.std.specs.Prelude.{ℕ, ◌+◌, Bool, cond, List, [], ◌∷◌, Some, None, Option}
 
 -- n where the test holds, else 0
 abbrev pub at : Bool → ℕ → ℕ
 at b n = cond b n 0
 
 module _ {X : Type 0} where
+  -- the sum of f, term by term from the front; std's `sum_by` is a fold
   abbrev pub sum_of : (X → ℕ) → List X → ℕ
   sum_of f [] = 0
   sum_of f (x ∷ xs) = f x + sum_of f xs
-
-  -- the first whose key is n
-  abbrev pub find : (X → ℕ) → ℕ → List X → Option X
-  find key n [] = None
-  find key n (x ∷ xs) = cond (key x == n) (Some x) (find key n xs)
-
-  -- those that pass a test
-  abbrev pub those : (X → Bool) → List X → List X
-  those p [] = []
-  those p (x ∷ xs) = cond (p x) (x ∷ those p xs) (those p xs)
 
   -- x at its place in a list that is in order
   abbrev pub put : (X → X → Bool) → X → List X → List X
@@ -28,11 +19,6 @@ module _ {X : Type 0} where
   abbrev pub in_order : (X → X → Bool) → List X → List X
   in_order before [] = []
   in_order before (x ∷ xs) = put before x (in_order before xs)
-
-  -- the first that there is
-  abbrev pub or_else : Option X → Option X → Option X
-  or_else None o = o
-  or_else (Some x) o = Some x
 
   -- the first whose test holds
   abbrev pub first_of : List (Bool × X) → Option X

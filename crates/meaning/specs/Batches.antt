@@ -1,5 +1,6 @@
 -- Chains and batches: which answer each order gets, and which entries join the journal.
 use Rattle.std.specs.Prelude.{ℕ, ◌+◌, ◌-◌, Bool, false, cond, List, [], ◌∷◌, ◌++◌, map, length, replicate, Some, None, Ok, Err, Option, Result, nat_lt, slice_set}
+use Rattle.std.specs.Option.{option_map}
 use Rattle.meaning.specs.declared.order.Order.{Order}
 use Rattle.meaning.specs.declared.record.Record.{Record}
 use Rattle.meaning.specs.declared.refusal.Refusal.{Refusal}
@@ -7,6 +8,7 @@ use Rattle.meaning.specs.declared.refusal.Refusal.TheVariants.{ChainRefused, Cha
 use Rattle.meaning.specs.declared.answers.Stop.{Stop}
 use Rattle.meaning.specs.Given.{Journal}
 use Rattle.meaning.specs.Basics.{sum_of, first_of}
+use Rattle.meaning.specs.Limits.{most_legs}
 use Rattle.meaning.specs.Rules.{Policy, leg_refused, leg_writes}
 
 -- what an order is answered
@@ -31,8 +33,7 @@ unfinished (o ∷ (p ∷ os)) = unfinished (p ∷ os)
 
 -- the first refused leg; each leg sees the earlier ones
 abbrev pub later : Option Stop → Option Stop
-later None = None
-later (Some s) = Some (record { place = s.place + 1; refusal = s.refusal })
+later s = option_map (λ (x : Stop). record x { place = x.place + 1 }) s
 
 abbrev pub stop_if : Option Refusal → Option Stop → Option Stop
 stop_if (Some r) rest = Some (record { place = 0; refusal = r })
@@ -61,7 +62,7 @@ by_legs T os (Some s) = but_one s.place s.refusal os
 abbrev pub chain : Policy → Journal → (T spare : ℕ) → List Order → Outcome
 chain policy J T spare os =
     cond (unfinished os) (but_one (length os - 1) ChainUnfinished os)
-    (cond (nat_lt 16 (length os)) (all_are (Err ChainTooLong) os)
+    (cond (nat_lt most_legs (length os)) (all_are (Err ChainTooLong) os)
     (cond (nat_lt spare (length os)) (all_are (Err ChainOverSpare) os)
     (by_legs T os (first_refused policy J T os))))
 

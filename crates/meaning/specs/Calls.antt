@@ -1,19 +1,20 @@
 -- What each call on a book answers, writes and leaves, over the state of the book: its journal's entries, its moment
 -- and its journal's spare.
 use Rattle.std.specs.Prelude.{ℕ, List, [], ◌∷◌, ◌++◌, length, drop, Some, None, Ok, Err, Option, Result, ◌==◌}
+use Rattle.std.specs.Option.{option_or}
 use Rattle.meaning.specs.declared.answers.Moved.{Moved}
 use Rattle.meaning.specs.declared.opening.Opening.{Opening}
 use Rattle.meaning.specs.declared.order.Order.{Order}
 use Rattle.meaning.specs.declared.record.Record.{Record}
 use Rattle.meaning.specs.declared.refusal.Refusal.{Refusal}
 use Rattle.meaning.specs.declared.reservation.Reservation.{Reservation}
-use Rattle.meaning.specs.Basics.{or_else}
 use Rattle.meaning.specs.Given.{Journal}
 use Rattle.meaning.specs.Rules.{Policy, opening_refused, opening_writes}
 use Rattle.meaning.specs.Batches.{Answer, Outcome, batch, batch_refused}
-use Rattle.meaning.specs.Moves.{lapsed, next_deadline, move_refused}
+use Rattle.meaning.specs.Moves.{lapse_list, next_deadline, move_refused}
 use Rattle.meaning.specs.Reading.{reading, stopped_refused}
-use Rattle.meaning.specs.Questions.{Standing, account_asked, reservation_asked}
+use Rattle.meaning.specs.declared.standing.Standing.{Standing}
+use Rattle.meaning.specs.Questions.{account_asked, reservation_asked}
 use Rattle.meaning.specs.Listing.{listing, report_refused}
 
 -- a value, unless something is refused
@@ -31,8 +32,8 @@ abbrev pub over : {X : Type 0} → List X → List X → List X
 over new old = new ++ drop (length new) old
 
 -- what a move answers: how many lapse, and the earliest deadline that is left, or 0
-abbrev pub moved : Journal → (T t : ℕ) → Moved
-moved J T t = record { lapsed = length (lapsed J T t); next_deadline = next_deadline J t }
+abbrev pub move_answer : Journal → (T t : ℕ) → Moved
+move_answer J T t = record { lapsed = length (lapse_list J T t); next_deadline = next_deadline J t }
 
 pub record State : Type 0 where
   pub journal : Journal
@@ -47,7 +48,7 @@ module _ (policy : Policy) (s : State) where
   -- Opening an account.
 
   abbrev pub opens_not : Opening → Option Refusal
-  opens_not A = or_else unread (opening_refused policy s.journal (s.spare == 0) A)
+  opens_not A = option_or unread (opening_refused policy s.journal (s.spare == 0) A)
 
   abbrev pub open_writes : Opening → List Record
   open_writes A = unless (opens_not A) (opening_writes s.moment A ∷ []) []
@@ -55,7 +56,7 @@ module _ (policy : Policy) (s : State) where
   -- Running a batch, with a list for its answers.
 
   abbrev pub runs_not : List Order → List Answer → Option Refusal
-  runs_not os ans = or_else unread (batch_refused os (length ans))
+  runs_not os ans = option_or unread (batch_refused os (length ans))
 
   abbrev pub ran : List Order → Outcome
   ran os = batch policy s.journal s.moment s.spare os
@@ -69,10 +70,10 @@ module _ (policy : Policy) (s : State) where
   -- Moving to t, with a list for the lapses.
 
   abbrev pub moves_not : ℕ → List ℕ → Option Refusal
-  moves_not t ls = or_else unread (move_refused s.journal s.moment t (length ls))
+  moves_not t ls = option_or unread (move_refused s.journal s.moment t (length ls))
 
   abbrev pub move_lapses : ℕ → List ℕ → List ℕ
-  move_lapses t ls = unless (moves_not t ls) (over (lapsed s.journal s.moment t) ls) ls
+  move_lapses t ls = unless (moves_not t ls) (over (lapse_list s.journal s.moment t) ls) ls
 
   abbrev pub moved_to : ℕ → List ℕ → ℕ
   moved_to t ls = unless (moves_not t ls) t s.moment
@@ -80,7 +81,7 @@ module _ (policy : Policy) (s : State) where
   -- Reporting into a buffer.
 
   abbrev pub reports_not : List ℕ → Option Refusal
-  reports_not bs = or_else unread (report_refused s.journal s.moment (length bs))
+  reports_not bs = option_or unread (report_refused s.journal s.moment (length bs))
 
   abbrev pub report_bytes : List ℕ → List ℕ
   report_bytes bs = unless (reports_not bs) (over (listing s.journal s.moment) bs) bs

@@ -12,7 +12,7 @@ use Rattle.meaning.specs.Given.{Journal, Reserved, the_reservation, fate, is_liv
 use Rattle.meaning.specs.Rules.{Policy, opening_writes}
 use Rattle.meaning.specs.Policies.{open_to_all, floor}
 use Rattle.meaning.specs.Batches.{batch, grown}
-use Rattle.meaning.specs.Moves.{lapsed}
+use Rattle.meaning.specs.Moves.{lapse_list}
 
 abbrev same : List ℕ → List ℕ → Bool
 same [] [] = true
@@ -72,19 +72,19 @@ post_too_much = same (answered open_to_all reserved 1000 (order 2 (Post 1 401) �
 
 -- the deadline is 1060: live after a move to 1059, lapsed after one to 1060
 abbrev live_before : Bool
-live_before = live_at reserved 1059 1 && same (lapsed reserved 1000 1059) []
+live_before = live_at reserved 1059 1 && same (lapse_list reserved 1000 1059) []
 
 abbrev lapsed_at : Bool
 lapsed_at =
     has_fate is_lapsed reserved 1060 (the_reservation reserved 1)
-    && (same (lapsed reserved 1000 1060) (1 ∷ []) && pending reserved 1060 debits 1 == 0)
+    && (same (lapse_list reserved 1000 1060) (1 ∷ []) && pending reserved 1060 debits 1 == 0)
 
 -- without a duration it is live at the last moment
 abbrev unending : Journal
 unending = ran open_to_all opened 1000 (order 1 (Reserve 1 2 400 0) ∷ [])
 
 abbrev live_at_last : Bool
-live_at_last = live_at unending last 1 && same (lapsed unending 1000 last) []
+live_at_last = live_at unending last 1 && same (lapse_list unending 1000 last) []
 
 -- under Floor with limit 0, account 2 has received 900
 abbrev received : Journal

@@ -6,6 +6,7 @@
 --   Post reservation amount · Void reservation
 -- where until 0 stands for no deadline.
 use Rattle.std.specs.Prelude.{ℕ, max, Bool, true, false, cond, ◌&&◌, List, [], ◌∷◌, Some, None, Option, ◌==◌, nat_le, nat_lt}
+use Rattle.std.specs.List.{find}
 use Rattle.meaning.specs.declared.content.Content.{Content}
 use Rattle.meaning.specs.declared.content.Content.TheVariants.{Account, Transfer, Reserve, Post, Void}
 use Rattle.meaning.specs.declared.record.Record.{Record}
@@ -13,23 +14,23 @@ use Rattle.meaning.specs.declared.opening.Opening.{Opening}
 use Rattle.meaning.specs.declared.fate.Fate.{Fate}
 use Rattle.meaning.specs.declared.fate.Fate.TheVariants.{Live, Posted, Voided, Lapsed}
 use Rattle.meaning.specs.Fates.{decided}
-use Rattle.meaning.specs.Basics.{at, sum_of, find}
+use Rattle.meaning.specs.Basics.{at, sum_of}
 
 abbrev pub Journal : Type 0
 Journal = List Record
 
 -- Accounts and reservations: the entries of those kinds, the newest first.
 
-abbrev pub account_in : ℕ → Content → List Opening → List Opening
-account_in n (Account l k m b) rest = record { number = n; ledger = l; class = k; limit = m; label = b } ∷ rest
-account_in n (Transfer d c z) rest = rest
-account_in n (Reserve d c z u) rest = rest
-account_in n (Post r z) rest = rest
-account_in n (Void r) rest = rest
+abbrev pub with_account : ℕ → Content → List Opening → List Opening
+with_account n (Account l k m b) rest = record { number = n; ledger = l; class = k; limit = m; label = b } ∷ rest
+with_account n (Transfer d c z) rest = rest
+with_account n (Reserve d c z u) rest = rest
+with_account n (Post r z) rest = rest
+with_account n (Void r) rest = rest
 
 abbrev pub accounts : Journal → List Opening
 accounts [] = []
-accounts (e ∷ J) = account_in e.number e.content (accounts J)
+accounts (e ∷ J) = with_account e.number e.content (accounts J)
 
 pub record Reserved : Type 0 where
   pub number : ℕ
@@ -38,22 +39,22 @@ pub record Reserved : Type 0 where
   pub amount : ℕ
   pub until : ℕ
 
-abbrev pub reservation_in : ℕ → Content → List Reserved → List Reserved
-reservation_in n (Account l k m b) rs = rs
-reservation_in n (Transfer d c z) rs = rs
-reservation_in n (Reserve d c z u) rs = record { number = n; debit = d; credit = c; amount = z; until = u } ∷ rs
-reservation_in n (Post r z) rs = rs
-reservation_in n (Void r) rs = rs
+abbrev pub with_reservation : ℕ → Content → List Reserved → List Reserved
+with_reservation n (Account l k m b) rs = rs
+with_reservation n (Transfer d c z) rs = rs
+with_reservation n (Reserve d c z u) rs = record { number = n; debit = d; credit = c; amount = z; until = u } ∷ rs
+with_reservation n (Post r z) rs = rs
+with_reservation n (Void r) rs = rs
 
 abbrev pub reservations : Journal → List Reserved
 reservations [] = []
-reservations (e ∷ J) = reservation_in e.number e.content (reservations J)
+reservations (e ∷ J) = with_reservation e.number e.content (reservations J)
 
 abbrev pub the_account : Journal → ℕ → Option Opening
-the_account J a = find (λ (A : Opening). A.number) a (accounts J)
+the_account J a = find (λ (A : Opening). A.number == a) (accounts J)
 
 abbrev pub the_reservation : Journal → ℕ → Option Reserved
-the_reservation J r = find (λ (R : Reserved). R.number) r (reservations J)
+the_reservation J r = find (λ (R : Reserved). R.number == r) (reservations J)
 
 -- The fate of a reservation: posted or voided if an entry of J names it, else lapsed if its deadline has come.
 
@@ -105,20 +106,20 @@ pub record Movement : Type 0 where
   pub credit : ℕ
   pub amount : ℕ
 
-abbrev pub post_in : Option Reserved → ℕ → List Movement → List Movement
-post_in None z ms = ms
-post_in (Some R) z ms = record { debit = R.debit; credit = R.credit; amount = z } ∷ ms
+abbrev pub with_post : Option Reserved → ℕ → List Movement → List Movement
+with_post None z ms = ms
+with_post (Some R) z ms = record { debit = R.debit; credit = R.credit; amount = z } ∷ ms
 
-abbrev pub movement_in : Journal → Content → List Movement → List Movement
-movement_in J (Account l k m b) ms = ms
-movement_in J (Transfer d c z) ms = record { debit = d; credit = c; amount = z } ∷ ms
-movement_in J (Reserve d c z u) ms = ms
-movement_in J (Post r z) ms = post_in (the_reservation J r) z ms
-movement_in J (Void r) ms = ms
+abbrev pub with_movement : Journal → Content → List Movement → List Movement
+with_movement J (Account l k m b) ms = ms
+with_movement J (Transfer d c z) ms = record { debit = d; credit = c; amount = z } ∷ ms
+with_movement J (Reserve d c z u) ms = ms
+with_movement J (Post r z) ms = with_post (the_reservation J r) z ms
+with_movement J (Void r) ms = ms
 
 abbrev pub movements : Journal → List Movement
 movements [] = []
-movements (e ∷ J) = movement_in J e.content (movements J)
+movements (e ∷ J) = with_movement J e.content (movements J)
 
 -- DQ and CQ: the movements that debit or credit the account
 abbrev pub posted : Journal → Side → ℕ → ℕ
@@ -130,16 +131,16 @@ of_ledger J L f = sum_of (λ (A : Opening). at (A.ledger == L) (f A.number)) (ac
 
 -- N: the highest number of an order's entry, or 0.
 
-abbrev pub number_in : ℕ → Content → ℕ → ℕ
-number_in n (Account l k m b) h = h
-number_in n (Transfer d c z) h = max h n
-number_in n (Reserve d c z u) h = max h n
-number_in n (Post r z) h = max h n
-number_in n (Void r) h = max h n
+abbrev pub with_number : ℕ → Content → ℕ → ℕ
+with_number n (Account l k m b) h = h
+with_number n (Transfer d c z) h = max h n
+with_number n (Reserve d c z u) h = max h n
+with_number n (Post r z) h = max h n
+with_number n (Void r) h = max h n
 
 abbrev pub highest : Journal → ℕ
 highest [] = 0
-highest (e ∷ J) = number_in e.number e.content (highest J)
+highest (e ∷ J) = with_number e.number e.content (highest J)
 
 -- the moment of the newest entry, or 0
 abbrev pub latest : Journal → ℕ

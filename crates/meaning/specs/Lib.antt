@@ -2,6 +2,7 @@ pub mod Basics
 pub mod Numbers
 pub mod Labels
 pub mod Sound
+pub mod Limits
 pub mod Made
 pub mod Raws
 pub mod Fates

@@ -1,8 +1,9 @@
 -- Moving to a moment: what lapses, in which order, and the earliest deadline that is left.
 use Rattle.std.specs.Prelude.{ℕ, Bool, ◌&&◌, ◌||◌, List, [], ◌∷◌, map, length, Option, ◌==◌, nat_le, nat_lt}
+use Rattle.std.specs.List.{filter}
 use Rattle.meaning.specs.declared.refusal.Refusal.{Refusal}
 use Rattle.meaning.specs.declared.refusal.Refusal.TheVariants.{MomentTooLate, MomentEarlier, LapsesTooShort}
-use Rattle.meaning.specs.Basics.{those, in_order, first_of}
+use Rattle.meaning.specs.Basics.{in_order, first_of}
 use Rattle.meaning.specs.Given.{Journal, Reserved, reservations, fate, is_live}
 use Rattle.meaning.specs.Sound.{last}
 
@@ -12,15 +13,15 @@ sooner R S = nat_lt R.until S.until || (R.until == S.until && nat_lt R.number S.
 
 -- the live reservations of J at T with a deadline, in that order
 abbrev pub awaiting : Journal → ℕ → List Reserved
-awaiting J T = in_order sooner (those (λ R. is_live (fate J T R) && nat_lt 0 R.until) (reservations J))
+awaiting J T = in_order sooner (filter (λ R. is_live (fate J T R) && nat_lt 0 R.until) (reservations J))
 
 -- those that a move from T to t lets lapse
 abbrev pub lapsing : Journal → (T t : ℕ) → List Reserved
-lapsing J T t = those (λ R. nat_le R.until t) (awaiting J T)
+lapsing J T t = filter (λ R. nat_le R.until t) (awaiting J T)
 
 -- their numbers, in the order of the lapse list
-abbrev pub lapsed : Journal → (T t : ℕ) → List ℕ
-lapsed J T t = map (λ (R : Reserved). R.number) (lapsing J T t)
+abbrev pub lapse_list : Journal → (T t : ℕ) → List ℕ
+lapse_list J T t = map (λ (R : Reserved). R.number) (lapsing J T t)
 
 abbrev pub first_deadline : List Reserved → ℕ
 first_deadline [] = 0
@@ -39,4 +40,4 @@ refused_with T t places falling = first_of
     ∷ [])
 
 abbrev pub move_refused : Journal → (T t places : ℕ) → Option Refusal
-move_refused J T t places = refused_with T t places (length (lapsed J T t))
+move_refused J T t places = refused_with T t places (length (lapse_list J T t))

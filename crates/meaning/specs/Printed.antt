@@ -1,12 +1,12 @@
 -- How orders, openings and fates are printed.
 use Rattle.std.specs.Prelude.{ℕ, cond, List, [], ◌++◌, ◌==◌, codes, decimal, flat_map, encode_utf8}
+use Rattle.std.specs.Int.{w64, to_be_bytes}
 use Rattle.meaning.specs.declared.fate.Fate.{Fate}
 use Rattle.meaning.specs.declared.fate.Fate.TheVariants.{Live, Posted, Voided, Lapsed}
 use Rattle.meaning.specs.declared.opening.Opening.{Opening}
 use Rattle.meaning.specs.declared.order.Action.{Action}
 use Rattle.meaning.specs.declared.order.Action.TheVariants.{Transfer, Reserve, Post, Void}
 use Rattle.meaning.specs.declared.order.Order.{Order}
-use Rattle.meaning.specs.Labels.{bytes8}
 
 abbrev pub fate_text : Fate → List ℕ
 fate_text Live = codes "live"
@@ -33,4 +33,4 @@ opening_start A =
     codes "open " ++ (decimal A.number ++ (codes ": ledger " ++ (decimal A.ledger ++ (codes ", class " ++ (decimal A.class ++ (codes ", limit " ++ (decimal A.limit ++ codes ", label ")))))))
 
 abbrev pub opening_text : Opening → List ℕ
-opening_text A = opening_start A ++ letters (bytes8 A.label)
+opening_text A = opening_start A ++ letters (to_be_bytes w64 A.label)

@@ -3,23 +3,17 @@ use Rattle.std.specs.Prelude.{ℕ, Option}
 use Rattle.std.specs.Option.{option_map}
 use Rattle.meaning.specs.declared.opening.Opening.{Opening}
 use Rattle.meaning.specs.declared.reservation.Reservation.{Reservation}
+use Rattle.meaning.specs.declared.standing.Standing.{Standing}
 use Rattle.meaning.specs.Given.{Journal, Reserved, the_account, the_reservation, fate, debits, credits, pending, posted}
-
-pub record Standing : Type 0 where
-  pub account : Opening
-  pub dp : ℕ
-  pub dq : ℕ
-  pub cp : ℕ
-  pub cq : ℕ
 
 -- an account of J with the totals that J and T give it
 abbrev pub standing : Journal → ℕ → Opening → Standing
 standing J T A = record {
   account = A;
-  dp = pending J T debits A.number;
-  dq = posted J debits A.number;
-  cp = pending J T credits A.number;
-  cq = posted J credits A.number;
+  debits_pending = pending J T debits A.number;
+  debits_posted = posted J debits A.number;
+  credits_pending = pending J T credits A.number;
+  credits_posted = posted J credits A.number;
 }
 
 abbrev pub account_asked : Journal → ℕ → ℕ → Option Standing

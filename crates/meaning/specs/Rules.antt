@@ -1,5 +1,6 @@
 -- The rules of an opening and of a leg: each refusal with its condition, in the order in which they are checked.
-use Rattle.std.specs.Prelude.{ℕ, ◌+◌, Bool, true, false, cond, not, ◌||◌, List, [], ◌∷◌, length, Some, None, Option, ◌==◌, nat_le, nat_lt}
+use Rattle.std.specs.Prelude.{ℕ, ◌+◌, Bool, false, cond, not, ◌||◌, List, [], ◌∷◌, ◌++◌, length, is_some, Some, None, Option, ◌==◌, nat_le, nat_lt}
+use Rattle.std.specs.Option.{option_or, option_and_then}
 use Rattle.meaning.specs.declared.content.Content.{Content}
 use Rattle.meaning.specs.declared.content.Content.TheVariants.{Account, Transfer, Reserve, Post, Void}
 use Rattle.meaning.specs.declared.order.Action.{Action}
@@ -12,30 +13,43 @@ use Rattle.meaning.specs.declared.fate.Fate.TheVariants.{Live, Posted, Voided, L
 use Rattle.meaning.specs.declared.refusal.Refusal.{Refusal}
 use Rattle.meaning.specs.declared.refusal.Refusal.TheVariants.{OrderNumber, Amount, DebitUnknown, CreditUnknown, SameAccount, LedgersDiffer, TopPassed, DebitNotAdmitted, CreditNotAdmitted, ReservationsFull, ReservationUnknown, AlreadyPosted, AlreadyVoided, AlreadyLapsed, PostAmount, AccountNumber, Ledger, Limit, LabelMalformed, AccountsFull, JournalFull, AccountNotAdmitted}
 use Rattle.meaning.specs.Labels.{is_label}
-use Rattle.meaning.specs.Sound.{top}
-use Rattle.meaning.specs.Basics.{or_else, first_of}
-use Rattle.meaning.specs.Given.{Journal, Reserved, accounts, reservations, the_account, the_reservation, fate, debits, credits, pending, posted, highest}
+use Rattle.meaning.specs.Limits.{most_accounts, most_reservations}
+use Rattle.meaning.specs.Sound.{top, fits}
+use Rattle.meaning.specs.Basics.{first_of}
+use Rattle.meaning.specs.Given.{Journal, accounts, reservations, the_account, highest}
+use Rattle.meaning.specs.declared.reservation.Reservation.{Reservation}
+use Rattle.meaning.specs.declared.standing.Standing.{Standing}
+use Rattle.meaning.specs.Questions.{account_asked, reservation_asked}
 
 -- what a policy admits: a class, a limit, and the totals DP, DQ, CP, CQ
 abbrev pub Policy : Type 0
 Policy = (class limit dp dq cp cq : ℕ) → Bool
 
+-- the policy's word on an account as it stands
+abbrev pub admits_standing : Policy → Standing → Bool
+admits_standing policy s = policy s.account.class s.account.limit s.debits_pending s.debits_posted s.credits_pending s.credits_posted
+
 -- Opening an account. The journal is full where its spare is 0.
 
-abbrev pub is_taken : Option Opening → Bool
-is_taken None = false
-is_taken (Some A) = true
+-- a number that is free, and a ledger
+abbrev pub place_checks : Journal → (number ledger : ℕ) → List (Bool × Refusal)
+place_checks J n l =
+    ((n == 0 || is_some (the_account J n), AccountNumber)
+    ∷ ((l == 0), Ledger)
+    ∷ [])
+
+-- the policy's word on an account with four zeros
+abbrev pub zeros_checks : Policy → (class limit : ℕ) → List (Bool × Refusal)
+zeros_checks policy k m = (not (policy k m 0 0 0 0), AccountNotAdmitted) ∷ []
 
 abbrev pub opening_checks : Policy → Journal → (full : Bool) → Opening → List (Bool × Refusal)
 opening_checks policy J full A =
-    ((A.number == 0 || is_taken (the_account J A.number), AccountNumber)
-    ∷ ((A.ledger == 0), Ledger)
-    ∷ (nat_lt top A.limit, Limit)
+    place_checks J A.number A.ledger
+    ++ ((nat_lt top A.limit, Limit)
     ∷ (not (is_label A.label), LabelMalformed)
-    ∷ (nat_le 64 (length (accounts J)), AccountsFull)
+    ∷ (nat_le most_accounts (length (accounts J)), AccountsFull)
     ∷ (full, JournalFull)
-    ∷ (not (policy A.class A.limit 0 0 0 0), AccountNotAdmitted)
-    ∷ [])
+    ∷ zeros_checks policy A.class A.limit)
 
 abbrev pub opening_refused : Policy → Journal → (full : Bool) → Opening → Option Refusal
 opening_refused policy J full A = first_of (opening_checks policy J full A)
@@ -51,7 +65,7 @@ amount_refused z = first_of ((z == 0 || nat_lt top z, Amount) ∷ [])
 
 -- of so many reservations
 abbrev pub room_refused : ℕ → Option Refusal
-room_refused n = first_of ((nat_le 256 n, ReservationsFull) ∷ [])
+room_refused n = first_of ((nat_le most_reservations n, ReservationsFull) ∷ [])
 
 abbrev pub fate_refused : Fate → Option Refusal
 fate_refused Live = None
@@ -63,39 +77,58 @@ fate_refused Lapsed = Some AlreadyLapsed
 abbrev pub part_refused : (z a : ℕ) → Option Refusal
 part_refused z a = first_of ((z == 0 || nat_lt a z, PostAmount) ∷ [])
 
+-- Rules of a leg on a reservation that is known or not, as it stands: a void, and a post of z.
+
+abbrev pub void_refused : Option Reservation → Option Refusal
+void_refused None = Some ReservationUnknown
+void_refused (Some R) = fate_refused R.fate
+
+abbrev pub post_refused : ℕ → Option Reservation → Option Refusal
+post_refused z o = option_or (void_refused o) (option_and_then (λ (R : Reservation). part_refused z R.amount) o)
+
+-- Rules of a leg between a debit account D and a credit account C.
+
+-- z more between them, as they stand
+abbrev pub pair_checks : ℕ → (D C : Standing) → List (Bool × Refusal)
+pair_checks z D C =
+    (((D.account.number == C.account.number), SameAccount)
+    ∷ (not (D.account.ledger == C.account.ledger), LedgersDiffer)
+    ∷ (not (fits D.debits_pending D.debits_posted z), TopPassed)
+    ∷ (not (fits C.credits_pending C.credits_posted z), TopPassed)
+    ∷ [])
+
+-- the policy's word on both, as they would stand
+abbrev pub policy_checks : Policy → (D C : Standing) → List (Bool × Refusal)
+policy_checks policy D C =
+    ((not (admits_standing policy D), DebitNotAdmitted)
+    ∷ (not (admits_standing policy C), CreditNotAdmitted)
+    ∷ [])
+
+-- p more pending and q more posted from D to C
+abbrev pub between_checks : Policy → (p q : ℕ) → (D C : Standing) → List (Bool × Refusal)
+between_checks policy p q D C =
+    pair_checks (p + q) D C
+    ++ policy_checks policy (record D { debits_pending = D.debits_pending + p; debits_posted = D.debits_posted + q }) (record C { credits_pending = C.credits_pending + p; credits_posted = C.credits_posted + q })
+
+-- what is checked of two accounts where both are known
+abbrev pub parties_refused : ((D C : Standing) → List (Bool × Refusal)) → Option Standing → Option Standing → Option Refusal
+parties_refused checks None C = Some DebitUnknown
+parties_refused checks (Some D) None = Some CreditUnknown
+parties_refused checks (Some D) (Some C) = first_of (checks D C)
+
 module _ (policy : Policy) (J : Journal) (T : ℕ) where
-  -- p more pending and q more posted, from the debit account D to the credit account C, which are known
-  abbrev pub between_refused : (p q : ℕ) → Opening → Opening → Option Refusal
-  between_refused p q D C = first_of
-      (((D.number == C.number), SameAccount)
-      ∷ (not (D.ledger == C.ledger), LedgersDiffer)
-      ∷ (nat_lt top (pending J T debits D.number + posted J debits D.number + p + q), TopPassed)
-      ∷ (nat_lt top (pending J T credits C.number + posted J credits C.number + p + q), TopPassed)
-      ∷ (not (policy D.class D.limit (pending J T debits D.number + p) (posted J debits D.number + q) (pending J T credits D.number) (posted J credits D.number)), DebitNotAdmitted)
-      ∷ (not (policy C.class C.limit (pending J T debits C.number) (posted J debits C.number) (pending J T credits C.number + p) (posted J credits C.number + q)), CreditNotAdmitted)
-      ∷ [])
-
-  abbrev pub parties_refused : (p q : ℕ) → Option Opening → Option Opening → Option Refusal
-  parties_refused p q None C = Some DebitUnknown
-  parties_refused p q (Some D) None = Some CreditUnknown
-  parties_refused p q (Some D) (Some C) = between_refused p q D C
-
-  abbrev pub post_refused : ℕ → Option Reserved → Option Refusal
-  post_refused z None = Some ReservationUnknown
-  post_refused z (Some R) = or_else (fate_refused (fate J T R)) (part_refused z R.amount)
-
-  abbrev pub void_refused : Option Reserved → Option Refusal
-  void_refused None = Some ReservationUnknown
-  void_refused (Some R) = fate_refused (fate J T R)
+  -- p more pending and q more posted from account d to account c, by an entry with the number n
+  abbrev pub movement_refused : (n d c p q : ℕ) → Option Refusal
+  movement_refused n d c p q =
+      option_or (number_refused (highest J) n) (option_or (amount_refused (p + q)) (parties_refused (between_checks policy p q) (account_asked J T d) (account_asked J T c)))
 
   -- why an entry of this number and content is refused after J at moment T, if it is
   abbrev pub refused : ℕ → Content → Option Refusal
   refused n (Account l k m b) = opening_refused policy J false (record { number = n; ledger = l; class = k; limit = m; label = b })
-  refused n (Transfer d c z) = or_else (number_refused (highest J) n) (or_else (amount_refused z) (parties_refused 0 z (the_account J d) (the_account J c)))
-  refused n (Reserve d c z u) =
-      or_else (number_refused (highest J) n) (or_else (amount_refused z) (or_else (parties_refused z 0 (the_account J d) (the_account J c)) (room_refused (length (reservations J)))))
-  refused n (Post r z) = or_else (number_refused (highest J) n) (post_refused z (the_reservation J r))
-  refused n (Void r) = or_else (number_refused (highest J) n) (void_refused (the_reservation J r))
+  refused n (Transfer d c z) = movement_refused n d c 0 z
+  refused n (Reserve d c z u) = option_or (movement_refused n d c z 0) (room_refused (length (reservations J)))
+  refused n (Post r z) = option_or (number_refused (highest J) n) (post_refused z (reservation_asked J T r))
+  refused n (Void r) = option_or (number_refused (highest J) n) (void_refused (reservation_asked J T r))
 
 -- What a taken opening and a taken leg write.
 

@@ -18,6 +18,7 @@ pub mod record;
 pub mod refusal;
 pub mod reservation;
 pub mod side;
+pub mod standing;
 pub mod totals;
 
 pub use account::Account;
@@ -34,4 +35,5 @@ pub use record::Record;
 pub use refusal::Refusal;
 pub use reservation::Reservation;
 pub use side::Side;
+pub use standing::Standing;
 pub use totals::Totals;

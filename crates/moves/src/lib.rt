@@ -2,15 +2,15 @@
 #![tactic(auto)]
 
 ghost use Rattle.std.specs.Prelude.{◌≡◌, ℕ, ◌≤◌, length};
+ghost use Rattle.std.specs.Result.{result_err};
 ghost use Rattle.meaning.specs.Given.{Journal};
 ghost use Rattle.meaning.specs.Moves.{refused_with};
 ghost use Rattle.meaning.specs.Rules.{Policy};
 ghost use Rattle.balances.specs.Books.{books_of};
-ghost use Rattle.balances.specs.Judged.{refusal_in};
 ghost use Rattle.laws.specs.Steps.{Reads};
 ghost use Rattle.image.specs.Image.{image_of, lapses as lapses_of};
 ghost use Rattle.moves.specs.MovesOn.{MovesOn};
-ghost use Rattle.moves.specs.Turns.{numbered};
+ghost use Rattle.moves.specs.Turns.{filled_in};
 
 use balances::Balances;
 use meaning::limits::LAST_MOMENT;
@@ -29,7 +29,7 @@ pub fn advance(balances: &mut Balances, moment: u64)
 
 // Whether the tables may move, with so many places for so many that fall due.
 fn check_move(from: u64, to: u64, places: usize, due: usize) -> Result<(), Refusal>
-    ensures { refusal_in result ≡ refused_with from to places due }
+    ensures { result_err result ≡ refused_with from to places due }
 {
     if to > LAST_MOMENT {
         return Err(Refusal::MomentTooLate);
@@ -46,7 +46,7 @@ fn check_move(from: u64, to: u64, places: usize, due: usize) -> Result<(), Refus
 // Lets one reservation lapse for each place, and writes its number there.
 fn lapse_into(balances: &mut Balances, moment: u64, places: &mut [u32])
     ensures books { books_of balances.new ≡ lapses_of (length places.old) moment (books_of balances.old) }
-    ensures numbers { places.new ≡ numbered moment (books_of balances.old) places.old }
+    ensures numbers { places.new ≡ filled_in moment (books_of balances.old) places.old }
 {
     for place in places.iter_mut() {
         if let Some(number) = balances.lapse_next(moment) {

@@ -3,10 +3,10 @@ use Rattle.std.proofs.Common.{◌≡◌, Bool, true, false, cond, List, [], ◌�
 use Rattle.std.proofs.lemmas.Bool.{both_ways}
 use Rattle.meaning.specs.Basics.{put, in_order}
 use Rattle.ordered.specs.Rows.{Ordered}
-use Rattle.ordered.specs.Laws.{Lawful}
+use Rattle.ordered.specs.Laws.{LawfulOrder}
 use Rattle.ordered.proofs.Orderly.{all_put, no_sooner, one_way, none_sooner}
 
-module _ {K : Type 0} (before : K → K → Bool) (law : Lawful before) where
+module _ {K : Type 0} (before : K → K → Bool) (law : LawfulOrder before) where
   pub put_ordered : (k : K) (xs : List K) → Ordered before xs → Ordered before (put before k xs)
   put_ordered k [] h = (tt, tt)
   put_ordered k (x ∷ xs) h = go (before k x) refl (put_ordered k xs h.1)

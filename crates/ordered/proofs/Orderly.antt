@@ -1,10 +1,10 @@
 -- What the three laws of an order give for two and three keys, and for one key and many.
 use Rattle.std.proofs.Common.{◌≡◌, ◌+◌, Bool, true, false, cond, List, [], ◌∷◌, length, refl, arith}
-use Rattle.std.specs.List.{AllByRecursion as All}
+use Rattle.std.specs.List.{AllByRecursion as All, filter}
 use Rattle.std.proofs.ByRecursion.{All-weaker}
 use Rattle.std.proofs.lemmas.Bool.{both_ways}
-use Rattle.meaning.specs.Basics.{those, put}
-use Rattle.ordered.specs.Laws.{Lawful}
+use Rattle.meaning.specs.Basics.{put}
+use Rattle.ordered.specs.Laws.{LawfulOrder}
 
 module _ {K : Type 0} (before : K → K → Bool) where
   pub all_put : (P : K → Type 0) (k : K) (xs : List K) → P k → All P xs → All P (put before k xs)
@@ -19,13 +19,13 @@ module _ {K : Type 0} (before : K → K → Bool) where
       let r = length-put k xs in
       elim (before k x) as (λ b. length (cond b (k ∷ (x ∷ xs)) (x ∷ put before k xs)) ≡ length (x ∷ xs) + 1) [ true ↦ omega arith | false ↦ omega (arith, r) ]
 
-  pub all_those : (P : K → Type 0) (p : K → Bool) (xs : List K) → All P xs → All P (those p xs)
-  all_those P p [] h = tt
-  all_those P p (x ∷ xs) h =
-      let r = all_those P p xs h.1 in
-      elim (p x) as (λ b. All P (cond b (x ∷ those p xs) (those p xs))) [ true ↦ (h.0, r) | false ↦ r ]
+  pub all_filtered : (P : K → Type 0) (p : K → Bool) (xs : List K) → All P xs → All P (filter p xs)
+  all_filtered P p [] h = tt
+  all_filtered P p (x ∷ xs) h =
+      let r = all_filtered P p xs h.1 in
+      elim (p x) as (λ b. All P (cond b (x ∷ filter p xs) (filter p xs))) [ true ↦ (h.0, r) | false ↦ r ]
 
-  module _ (law : Lawful before) where
+  module _ (law : LawfulOrder before) where
     -- what is not before z is not before what comes before z
     pub no_sooner : (x y z : K) → before x z ≡ true → before y z ≡ false → before y x ≡ false
     no_sooner x y z e f = go (before y x) refl

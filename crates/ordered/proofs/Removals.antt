@@ -4,11 +4,11 @@ use Rattle.std.specs.List.{AllByRecursion as All}
 use Rattle.std.proofs.lemmas.Bool.{or_parts}
 use Rattle.meaning.specs.Basics.{put, in_order}
 use Rattle.ordered.specs.Rows.{apart, Ordered, without}
-use Rattle.ordered.specs.Laws.{Lawful}
+use Rattle.ordered.specs.Laws.{LawfulOrder}
 use Rattle.ordered.proofs.Orderly.{none_sooner, put_first}
 use Rattle.ordered.proofs.Inserts.{in_order_ordered}
 
-module _ {K : Type 0} (before : K → K → Bool) (law : Lawful before) where
+module _ {K : Type 0} (before : K → K → Bool) (law : LawfulOrder before) where
   pub not_apart : (x y : K) → apart before x y ≡ false → x ≡ y
   not_apart x y e = let h = or_parts (before x y) (before y x) e in law.total x y h.0 h.1
 

@@ -1,22 +1,21 @@
 -- A test that every earlier key passes as well splits a row in order into a front and a rest.
 use Rattle.std.proofs.Common.{◌≡◌, Bool, true, false, not, List, [], ◌∷◌, sym, refl, ap, ◌∙◌}
-use Rattle.std.specs.List.{AllByRecursion as All}
+use Rattle.std.specs.List.{AllByRecursion as All, filter}
 use Rattle.std.proofs.ByRecursion.{All-weaker}
 use Rattle.std.proofs.lemmas.Bool.{both_ways}
-use Rattle.meaning.specs.Basics.{those}
 use Rattle.ordered.specs.Rows.{Ordered}
-use Rattle.ordered.specs.Laws.{Lawful, Splits}
+use Rattle.ordered.specs.Laws.{LawfulOrder, Splits}
 
 module _ {K : Type 0} (p : K → Bool) where
-  those_none : (xs : List K) → All (λ x. p x ≡ false) xs → those p xs ≡ []
-  those_none [] h = refl
-  those_none (x ∷ xs) h = rw h.0 (those_none xs h.1)
+  filter_none : (xs : List K) → All (λ x. p x ≡ false) xs → filter p xs ≡ []
+  filter_none [] h = refl
+  filter_none (x ∷ xs) h = rw h.0 (filter_none xs h.1)
 
-  those_all : (xs : List K) → All (λ x. p x ≡ false) xs → those (λ x. not (p x)) xs ≡ xs
-  those_all [] h = refl
-  those_all (x ∷ xs) h = rw h.0 (ap (λ ys. x ∷ ys) (those_all xs h.1))
+  filter_all : (xs : List K) → All (λ x. p x ≡ false) xs → filter (λ x. not (p x)) xs ≡ xs
+  filter_all [] h = refl
+  filter_all (x ∷ xs) h = rw h.0 (ap (λ ys. x ∷ ys) (filter_all xs h.1))
 
-module _ {K : Type 0} (before : K → K → Bool) (law : Lawful before) (p : K → Bool) (down : (x y : K) → p y ≡ true → before x y ≡ true → p x ≡ true) where
+module _ {K : Type 0} (before : K → K → Bool) (law : LawfulOrder before) (p : K → Bool) (down : (x y : K) → p y ≡ true → before x y ≡ true → p x ≡ true) where
   fails_after : (x y : K) → p x ≡ false → before y x ≡ false → p y ≡ false
   fails_after x y e f = go (p y) (before x y) refl refl
     where
@@ -33,6 +32,6 @@ module _ {K : Type 0} (before : K → K → Bool) (law : Lawful before) (p : K �
       go true e r = record { front = rw e (ap (λ ys. x ∷ ys) r.front); rest = rw e r.rest }
       go false e r =
           let fail : All (λ y. p y ≡ false) xs = All-weaker _ _ (λ y f. fails_after x y e f) xs h.0 in
-          let none = those_none p xs fail in
-          let all = those_all p xs fail in
+          let none = filter_none p xs fail in
+          let all = filter_all p xs fail in
           record { front = rw (e, none); rest = rw (e, none, all) }

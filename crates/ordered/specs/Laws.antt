@@ -1,12 +1,12 @@
 -- What rows in order keep, over any order.
 use Rattle.std.specs.Prelude.{◌≡◌, Bool, true, false, not, List, [], ◌∷◌, ◌++◌, length, take, drop}
-use Rattle.std.specs.List.{AllByRecursion}
-use Rattle.meaning.specs.Basics.{those, put, in_order}
+use Rattle.std.specs.List.{AllByRecursion, filter}
+use Rattle.meaning.specs.Basics.{put, in_order}
 use Rattle.ordered.specs.Rows.{apart, Ordered, without}
 
 module _ {K : Type 0} (before : K → K → Bool) where
   -- what makes a test an order of keys
-  pub record Lawful : Type 0 where
+  pub record LawfulOrder : Type 0 where
     pub irreflexive : (x : K) → before x x ≡ false
     pub transitive : (x y z : K) → before x y ≡ true → before y z ≡ true → before x z ≡ true
     pub total : (x y : K) → before x y ≡ false → before y x ≡ false → x ≡ y
@@ -31,12 +31,12 @@ module _ {K : Type 0} (before : K → K → Bool) where
 
   -- a test may be asked before the ordering or after it
   abbrev pub TestsPassThrough : Type 0
-  TestsPassThrough = (p : K → Bool) (xs : List K) → those p (in_order before xs) ≡ in_order before (those p xs)
+  TestsPassThrough = (p : K → Bool) (xs : List K) → filter p (in_order before xs) ≡ in_order before (filter p xs)
 
   -- a test that every earlier key passes as well holds of a front, and fails of the rest
   pub record Splits (p : K → Bool) (xs : List K) : Type 0 where
-    pub front : those p xs ≡ take (length (those p xs)) xs
-    pub rest : those (λ x. not (p x)) xs ≡ drop (length (those p xs)) xs
+    pub front : filter p xs ≡ take (length (filter p xs)) xs
+    pub rest : filter (λ x. not (p x)) xs ≡ drop (length (filter p xs)) xs
 
   abbrev pub FrontsPass : Type 0
   FrontsPass = (p : K → Bool) → ((x y : K) → p y ≡ true → before x y ≡ true → p x ≡ true) → (xs : List K) → Ordered before xs → Splits p xs

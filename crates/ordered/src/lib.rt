@@ -4,7 +4,7 @@
 ghost use Rattle.std.specs.Prelude.{◌≡◌, ◌+◌, ◌-◌, ◌<◌, ◌≤◌, Bool, true, false, ◌++◌, length, take, drop, not, position};
 ghost use Rattle.std.specs.List.{insert, remove, prefix_len};
 ghost use Rattle.meaning.specs.Basics.{put as put_in};
-ghost use Rattle.ordered.specs.Laws.{Lawful, StaysInOrder, AnyOrderIn, TakenOut, TestsPassThrough, FrontsPass};
+ghost use Rattle.ordered.specs.Laws.{LawfulOrder as Lawful, StaysInOrder, AnyOrderIn, TakenOut, TestsPassThrough, FrontsPass};
 ghost use Rattle.ordered.specs.Keyed.{KeysAgree};
 ghost use Rattle.ordered.specs.Orders.{due_before, line_before};
 ghost use Rattle.ordered.specs.Rows.{apart, without, row_with, count_with, row_without};

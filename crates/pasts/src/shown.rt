@@ -9,7 +9,7 @@ pub fn numbers(told: &Told) -> (u8, u64) {
         Told::Ran(answer) => (number_of(answer), answer.unwrap_or(0) as u64),
         Told::Moved(answer) => (number_of(answer), answer.map_or(0, |moved| moved.lapsed)),
         Told::Reported(answer) => (number_of(answer), answer.unwrap_or(0) as u64),
-        Told::Account(account) => (0, account.map_or(0, |statement| statement.debits_posted)),
+        Told::Account(account) => (0, account.map_or(0, |standing| standing.debits_posted)),
         Told::Reservation(held) => (
             0,
             held.map_or(0, |held| u64::from(held.fate == Fate::Lapsed)),

@@ -1,27 +1,27 @@
 -- A journal that reads has at most 256 reservations, so 256 places are enough for every move.
-use Rattle.std.proofs.Common.{◌≡◌, ℕ, ◌<◌, ◌≤◌, Bool, true, false, cond, ◌&&◌, ltb, leb, List, [], ◌∷◌, length, None, arith}
+use Rattle.std.proofs.Common.{◌≡◌, ℕ, ◌<◌, ◌≤◌, Bool, ◌&&◌, ltb, leb, [], ◌∷◌, length, None, arith}
 use Rattle.std.proofs.lemmas.List.{length-map}
 use Rattle.std.proofs.lemmas.Bool.{le-ltb}
+use Rattle.std.specs.List.{filter}
 use Rattle.meaning.specs.declared.content.Content.{Content}
 use Rattle.meaning.specs.declared.content.Content.TheVariants.{Account, Transfer, Reserve, Post, Void}
-use Rattle.meaning.specs.Basics.{those}
-use Rattle.meaning.specs.Given.{Journal, Reserved, reservations, reservation_in, the_account, fate, is_live, highest}
-use Rattle.meaning.specs.Moves.{sooner, awaiting, lapsed, move_refused}
-use Rattle.meaning.specs.Rules.{Policy, number_refused, amount_refused, parties_refused, room_refused, refused}
+use Rattle.meaning.specs.Given.{Journal, Reserved, reservations, with_reservation, fate, is_live}
+use Rattle.meaning.specs.Moves.{sooner, awaiting, lapse_list, move_refused}
+use Rattle.meaning.specs.Rules.{Policy, movement_refused, room_refused, refused}
 use Rattle.meaning.specs.Sound.{last}
 use Rattle.laws.specs.Steps.{Reads}
+use Rattle.image.proofs.Held.{length-filter-le}
 use Rattle.laws.proofs.Passes.{both_none, reads_prefix, reads_rules}
 use Rattle.image.proofs.Opened.{length-in_order}
 
 room_found : (J : Journal) → room_refused (length (reservations J)) ≡ None → length (reservations J) < 256
 room_found J e = grind arith
 
-few_more : (policy : Policy) (J : Journal) (T n : ℕ) (k : Content) → length (reservations J) ≤ 256 → refused policy J T n k ≡ None → length (reservation_in n k (reservations J)) ≤ 256
+few_more : (policy : Policy) (J : Journal) (T n : ℕ) (k : Content) → length (reservations J) ≤ 256 → refused policy J T n k ≡ None → length (with_reservation n k (reservations J)) ≤ 256
 few_more policy J T n (Account l c m b) h e = h
 few_more policy J T n (Transfer d c z) h e = h
 few_more policy J T n (Reserve d c z u) h e =
-    let w = (both_none (amount_refused z) _ (both_none (number_refused (highest J) n) _ e).1).1 in
-    let r = room_found J (both_none (parties_refused policy J T z 0 (the_account J d) (the_account J c)) (room_refused (length (reservations J))) w).1 in
+    let r = room_found J (both_none (movement_refused policy J T n d c z 0) (room_refused (length (reservations J))) e).1 in
     omega arith
 few_more policy J T n (Post r z) h e = h
 few_more policy J T n (Void r) h e = h
@@ -30,21 +30,13 @@ pub few_reservations : (policy : Policy) (J : Journal) → Reads policy J → le
 few_reservations policy [] h = omega arith
 few_reservations policy (e ∷ J) h = few_more policy J e.moment e.number e.content (few_reservations policy J (reads_prefix policy e J h)) (reads_rules policy e J h)
 
-those_fewer : {X : Type 0} (p : X → Bool) (xs : List X) → length (those p xs) ≤ length xs
-those_fewer p [] = omega arith
-those_fewer p (x ∷ xs) = go (p x) (those_fewer p xs)
-  where
-    go : (b : Bool) → length (those p xs) ≤ length xs → length (cond b (x ∷ those p xs) (those p xs)) ≤ length (x ∷ xs)
-    go true h = omega arith
-    go false h = omega arith
-
-few_lapses : (J : Journal) (T t : ℕ) → length (lapsed J T t) ≤ length (reservations J)
+few_lapses : (J : Journal) (T t : ℕ) → length (lapse_list J T t) ≤ length (reservations J)
 few_lapses J T t =
     let waits : Reserved → Bool = λ R. is_live (fate J T R) && ltb 0 R.until in
-    let a = length-map (those (λ R. leb R.until t) (awaiting J T)) (λ (R : Reserved). R.number) in
-    let b = those_fewer (λ (R : Reserved). leb R.until t) (awaiting J T) in
-    let c = length-in_order sooner (those waits (reservations J)) in
-    let d = those_fewer waits (reservations J) in
+    let a = length-map (filter (λ R. leb R.until t) (awaiting J T)) (λ (R : Reserved). R.number) in
+    let b = length-filter-le (λ (R : Reserved). leb R.until t) (awaiting J T) in
+    let c = length-in_order sooner (filter waits (reservations J)) in
+    let d = length-filter-le waits (reservations J) in
     omega arith
 
 -- a move with 256 places is not refused, if it goes on and not past the last moment
@@ -54,5 +46,5 @@ arrives policy J h T t le bound =
     let lapse = few_lapses J T t in
     let a = le-ltb last t bound in
     let b = le-ltb t T le in
-    let c = le-ltb 256 (length (lapsed J T t)) (omega arith) in
+    let c = le-ltb 256 (length (lapse_list J T t)) (omega arith) in
     rw (a, b, c)

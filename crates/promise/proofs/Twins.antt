@@ -1,11 +1,11 @@
 -- The second book against the first: over the list that the first has written, with the same spare and policy.
 use Rattle.std.proofs.Common.{◌≡◌, ◌-◌, List, ◌++◌, None, Result, sym, ap, ◌∙◌, subst, arith, Ok}
+use Rattle.std.specs.Option.{option_or}
 use Rattle.meaning.specs.declared.answers.Moved.{Moved}
 use Rattle.meaning.specs.declared.order.Order.{Order}
 use Rattle.meaning.specs.declared.record.Record.{Record}
 use Rattle.meaning.specs.declared.refusal.Refusal.{Refusal}
-use Rattle.meaning.specs.Basics.{or_else}
-use Rattle.meaning.specs.Calls.{State, answered, moved, moves_not, unless}
+use Rattle.meaning.specs.Calls.{State, answered, move_answer, moves_not, unless}
 use Rattle.meaning.specs.Given.{latest}
 use Rattle.meaning.specs.Moves.{move_refused}
 use Rattle.meaning.specs.Reading.{reading as reading_of, stopped_refused}
@@ -48,7 +48,7 @@ module _ {K : Type 0} (k : journal.Ghosts K) (admits admits' : Policy) (from : S
       λ i. record { journal = list i; moment = T i; spare = spare i }
 
   goes : moves_not admits start from.moment places ≡ None
-  goes = ap (λ v. or_else (stopped_refused v) (move_refused from.journal (latest from.journal) from.moment 256)) through ∙ arrives
+  goes = ap (λ v. option_or (stopped_refused v) (move_refused from.journal (latest from.journal) from.moment 256)) through ∙ arrives
 
   -- and comes to where the first book is
   comes_to : arrived admits' (beginning k admits' x) from.moment ≡ from
@@ -59,7 +59,7 @@ module _ {K : Type 0} (k : journal.Ghosts K) (admits admits' : Policy) (from : S
   pub meets : {r : Result Moved Refusal} → r ≡ arrival admits' (beginning k admits' x) from.moment → Meets from (arrived admits' (beginning k admits' x) from.moment) r
   meets told = record {
     there = comes_to;
-    arrival = told ∙ ((λ i. arrival (same i) (begun i) from.moment) ∙ ap (λ o. answered o (moved from.journal (latest from.journal) from.moment)) goes);
+    arrival = told ∙ ((λ i. arrival (same i) (begun i) from.moment) ∙ ap (λ o. answered o (move_answer from.journal (latest from.journal) from.moment)) goes);
   }
 
   module _ {Q : Type 0} (q : policy.Ghosts Q) (os : List Order) (further : List Call) (mine theirs theirs' : Desk) (B2 : Book K Q k q) (r : Result Moved Refusal) (second : Came k q admits' x from.moment os further theirs theirs' B2 r) (alike : Alike mine theirs) where

@@ -4,8 +4,9 @@ use Rattle.meaning.specs.declared.answers.Moved.{Moved}
 use Rattle.meaning.specs.declared.order.Order.{Order}
 use Rattle.meaning.specs.declared.record.Record.{Record}
 use Rattle.meaning.specs.declared.refusal.Refusal.{Refusal}
-use Rattle.meaning.specs.Calls.{State, answered, moved, moves_not, moved_to}
+use Rattle.meaning.specs.Calls.{State, answered, move_answer, moves_not, moved_to}
 use Rattle.meaning.specs.Given.{latest}
+use Rattle.meaning.specs.Limits.{most_reservations}
 use Rattle.meaning.specs.Moves.{move_refused}
 use Rattle.meaning.specs.Reading.{reading as reading_of}
 use Rattle.meaning.specs.Rules.{Policy}
@@ -33,11 +34,11 @@ beginning j admits x = begins (j.entries x) (j.spare x) admits
 
 -- places for as many lapses as there can be
 abbrev pub places : List ℕ
-places = replicate 256 0
+places = replicate most_reservations 0
 
 -- a move from s to t, under a policy: what it answers, and what it comes to
 abbrev pub arrival : Policy → State → ℕ → Result Moved Refusal
-arrival admits s t = answered (moves_not admits s t places) (moved s.journal s.moment t)
+arrival admits s t = answered (moves_not admits s t places) (move_answer s.journal s.moment t)
 
 abbrev pub arrived : Policy → State → ℕ → State
 arrived admits s t = after s [] (moved_to admits s t places)
@@ -46,16 +47,16 @@ arrived admits s t = after s [] (moved_to admits s t places)
 -- the newest entry
 pub record Meets (from s : State) (r : Result Moved Refusal) : Type 0 where
   pub there : s ≡ from
-  pub arrival : r ≡ Ok (moved from.journal (latest from.journal) from.moment)
+  pub arrival : r ≡ Ok (move_answer from.journal (latest from.journal) from.moment)
 
 module _ {J P K Q : Type 0} (j : journal.Ghosts J) (p : policy.Ghosts P) (k : journal.Ghosts K) (q : policy.Ghosts Q) where
   -- the second book against the first, after the same further calls: from is what the first had come to before them
   pub record Twin (admits : Policy) (from : State) (new : List Record) (mine theirs : Desk) (x' : K) (b : Book J P j p) (b' : Book K Q k q) : Type 0 where
-    -- its policy is the same, its journal was read through, and with 256 places for lapses the move to the first book's
+    -- its policy is the same, its journal was read through, and with so many places for lapses the move to the first book's
     -- moment was not refused
     pub policy : policy_of k q b' ≡ admits
     pub through : b'.reading ≡ Ok tt
-    pub arrives : move_refused (journal_of k x') (latest (journal_of k x')) from.moment 256 ≡ None
+    pub arrives : move_refused (journal_of k x') (latest (journal_of k x')) from.moment most_reservations ≡ None
     -- what its caller is told, its answers, lapses and bytes are the same
     pub alike : Alike mine theirs
     -- and so are entries, spare and moment

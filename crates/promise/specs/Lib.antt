@@ -1,5 +1,4 @@
 pub mod Spans
-pub mod Telling
 pub mod Worlds
 pub mod Made
 pub mod Kept

@@ -1,10 +1,9 @@
 -- What calls make of the state of a book and of the lists on a desk, by the rules alone: one call, and one after another.
 use Rattle.std.specs.Prelude.{ℕ, ◌-◌, Bool, true, cond, ◌&&◌, List, [], ◌∷◌, ◌++◌, length, slice_set}
-use Rattle.std.specs.Option.{option_map}
 use Rattle.meaning.specs.declared.order.Order.{Order}
 use Rattle.meaning.specs.declared.record.Record.{Record}
 use Rattle.meaning.specs.Batches.{grown, taken, Answer}
-use Rattle.meaning.specs.Calls.{State, answered, moved, opens_not, open_writes, runs_not, ran, run_writes, run_answers, moves_not, move_lapses, moved_to, reports_not, report_bytes, account_seen, reservation_seen}
+use Rattle.meaning.specs.Calls.{State, answered, move_answer, opens_not, open_writes, runs_not, ran, run_writes, run_answers, moves_not, move_lapses, moved_to, reports_not, report_bytes, account_seen, reservation_seen}
 use Rattle.meaning.specs.Listing.{listing}
 use Rattle.meaning.specs.Reading.{reading as reading_of}
 use Rattle.meaning.specs.Rules.{Policy}
@@ -14,7 +13,6 @@ use Rattle.promise.specs.declared.call.Call.{Call}
 use Rattle.promise.specs.declared.told.Told.{Told}
 use Rattle.promise.specs.declared.told.Told.TheVariants.{Opened, Ran, Moved as MovedOn, Reported, Account as AccountTold, Reservation as ReservationTold, Moment as At, Reading as ReadingTold}
 use Rattle.promise.specs.Spans.{inside, part, lay}
-use Rattle.promise.specs.Telling.{statement_of}
 
 pub record World : Type 0 where
   pub state : State
@@ -42,9 +40,9 @@ module _ (policy : Policy) (orders : List Order) (w : World) where
   abbrev pub tells : Ask → Told
   tells (Open A) = Opened (answered (opens_not policy w.state A) tt)
   tells (Run os ans) = Ran (answered (runs_not policy w.state (part os orders) (part ans w.answers)) (taken (ran policy w.state (part os orders))))
-  tells (Move t ls) = MovedOn (answered (moves_not policy w.state t (part ls w.lapses)) (moved w.state.journal w.state.moment t))
+  tells (Move t ls) = MovedOn (answered (moves_not policy w.state t (part ls w.lapses)) (move_answer w.state.journal w.state.moment t))
   tells (Report bs) = Reported (answered (reports_not policy w.state (part bs w.bytes)) (length (listing w.state.journal w.state.moment)))
-  tells (Account n) = AccountTold (option_map statement_of (account_seen policy w.state n))
+  tells (Account n) = AccountTold (account_seen policy w.state n)
   tells (Reservation n) = ReservationTold (reservation_seen policy w.state n)
   tells Moment = At w.state.moment
   tells Reading = ReadingTold (reading_of policy w.state.journal)

@@ -11,4 +11,4 @@ pub mod told;
 
 pub use call::{Ask, Call, Span};
 pub use desk::Desk;
-pub use told::{Statement, Told};
+pub use told::Told;

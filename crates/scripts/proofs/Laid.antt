@@ -3,12 +3,12 @@ use Rattle.std.proofs.Common.{◌≡◌, ℕ, ◌+◌, ◌<◌, ◌≤◌, List,
 use Rattle.std.proofs.lemmas.List.{take_more, append-nil, append_assoc, length-append, length-take-le, length-drop, drop-drop}
 use Rattle.std.proofs.lemmas.Grind.{flat_map-append}
 use lib.Seq.{take-append_seam, drop-append-add}
-use Rattle.scripts.specs.Pages.{joined, laid}
+use Rattle.scripts.specs.Pages.{joined_parts, laid}
 
 -- one part more
-pub joined_more : (parts : List (Bor (List ℕ))) (i : ℕ) → i < length parts → joined (take (i + 1) parts) ≡ joined (take i parts) ++ (get_or parts i (record { ref_ptr = (0, 0); now = [] })).now
+pub joined_more : (parts : List (Bor (List ℕ))) (i : ℕ) → i < length parts → joined_parts (take (i + 1) parts) ≡ joined_parts (take i parts) ++ (get_or parts i (record { ref_ptr = (0, 0); now = [] })).now
 joined_more parts i inside =
-    ap joined (take_more parts i _ inside) ∙ flat_map-append (λ (p : Bor (List ℕ)). p.now) (take i parts) _ ∙ ap (λ xs. joined (take i parts) ++ xs) (append-nil _)
+    ap joined_parts (take_more parts i _ inside) ∙ flat_map-append (λ (p : Bor (List ℕ)). p.now) (take i parts) _ ∙ ap (λ xs. joined_parts (take i parts) ++ xs) (append-nil _)
 
 module _ (n : ℕ) (a bs : List ℕ) (fits : n + length a ≤ length bs) where
   abbrev front_part : List ℕ

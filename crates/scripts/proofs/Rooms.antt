@@ -4,7 +4,7 @@ use Rattle.std.specs.Prelude.{nat_le}
 use Rattle.scripts.specs.declared.bad.Bad.{Bad}
 use Rattle.scripts.specs.declared.bad.Bad.TheVariants.{Output}
 use Rattle.scripts.specs.declared.page.Page.{Page}
-use Rattle.scripts.specs.Pages.{if_room, laid, PutBefore}
+use Rattle.scripts.specs.Pages.{if_fits, laid, PutBefore}
 
 pub put_fits : (b : Bool) → Ok tt ≡ cond {A = Result (Unit {0}) Bad} b (Ok tt) (Err Output) → b ≡ true
 put_fits true e = refl
@@ -15,7 +15,7 @@ put_fails true x e = absurd (cc e)
 put_fails false x e = refl
 
 abbrev asked : Page → ℕ → Result (Unit {0}) Bad
-asked p n = if_room p n (Ok tt) (Err Output)
+asked p n = if_fits p n (Ok tt) (Err Output)
 
 module _ (p : Page) (new : List ℕ) (more n : ℕ) (same : n ≡ length new + more) where
   abbrev there_is : Bool

@@ -9,14 +9,14 @@ use Rattle.layout.proofs.Records.{length-bytes}
 use Rattle.meaning.specs.declared.refusal.Refusal.{Refusal}
 use Rattle.meaning.specs.declared.reservation.Reservation.{Reservation}
 use Rattle.meaning.specs.Numbers.{answer_of}
-use Rattle.meaning.specs.Questions.{Standing}
+use Rattle.meaning.specs.declared.standing.Standing.{Standing}
 use Rattle.scripts.specs.Told.{as_2, as_4, as_8, or_0, fate_number, told_moved, told_journal, told_account, told_reservation}
 
 pub held_in_parts : (r : Reservation) (n d c a u : List ℕ) (f : ℕ) → n ≡ as_4 r.number → d ≡ as_4 r.debit → c ≡ as_4 r.credit → a ≡ as_8 r.amount → u ≡ as_8 r.deadline → f ≡ fate_number r.fate
     → 6 ∷ 1 ∷ (n ++ (d ++ (c ++ (a ++ (u ++ (f ∷ [])))))) ≡ told_reservation (Some r)
 held_in_parts r n d c a u f en ed ec ea eu ef = rw (en, ed, ec, ea, eu, ef) refl
 
-pub account_in_parts : (s : Standing) (n l m b p q v w : List ℕ) → n ≡ as_4 s.account.number → l ≡ as_2 s.account.ledger → m ≡ as_8 s.account.limit → b ≡ as_8 s.account.label → p ≡ as_8 s.dp → q ≡ as_8 s.dq → v ≡ as_8 s.cp → w ≡ as_8 s.cq
+pub account_in_parts : (s : Standing) (n l m b p q v w : List ℕ) → n ≡ as_4 s.account.number → l ≡ as_2 s.account.ledger → m ≡ as_8 s.account.limit → b ≡ as_8 s.account.label → p ≡ as_8 s.debits_pending → q ≡ as_8 s.debits_posted → v ≡ as_8 s.credits_pending → w ≡ as_8 s.credits_posted
     → 5 ∷ 1 ∷ (n ++ (l ++ (s.account.class ∷ (m ++ (b ++ (p ++ (q ++ (v ++ (w ++ []))))))))) ≡ told_account (Some s)
 account_in_parts s n l m b p q v w en el em eb ep eq ev ew = rw (en, el, em, eb, ep, eq, ev, ew) refl
 

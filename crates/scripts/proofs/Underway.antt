@@ -14,7 +14,7 @@ use Rattle.promise.specs.Worlds.{after}
 use Rattle.scripts.specs.declared.bad.Bad.{Bad}
 use Rattle.scripts.specs.declared.bad.Bad.TheVariants.{Output}
 use Rattle.scripts.specs.declared.page.Page.{Page}
-use Rattle.scripts.specs.Courses.{Course, tells, writes, comes_to, over_at, before, with_call}
+use Rattle.scripts.specs.Courses.{Course, tells, writes, comes_to, over_at, told_before, with_call}
 use Rattle.scripts.specs.Forms.{Call, call_at}
 use Rattle.scripts.specs.Made.{Made, MadeAll}
 use Rattle.scripts.specs.Pages.{laid, Put}
@@ -23,7 +23,7 @@ use Rattle.scripts.proofs.Booked.{state_after}
 use Rattle.scripts.proofs.Laid.{length_laid, laid_more}
 use Rattle.scripts.proofs.Rooms.{put_fits, put_fails}
 
-before_before : (T U : List ℕ) (V W : List Record) (c : Course) → before T V (before U W c) ≡ before (T ++ U) (V ++ W) c
+before_before : (T U : List ℕ) (V W : List Record) (c : Course) → told_before T V (told_before U W c) ≡ told_before (T ++ U) (V ++ W) c
 before_before T U V W c = λ i. record { told = sym (append_assoc T U c.told) i; new = sym (append_assoc V W c.new) i; moment = c.moment; ended = c.ended }
 
 module _ {J P : Type 0} (j : journal.Ghosts J) (p : policy.Ghosts P) (b0 : Book J P j p) (page0 : Page) (whole : Course) where
@@ -44,7 +44,7 @@ module _ {J P : Type 0} (j : journal.Ghosts J) (p : policy.Ghosts P) (b0 : Book 
     pub next : page.next ≡ page0.next + length told
     pub fits : page0.next + length told ≤ room
     pub same : page.bytes.ghost_name ≡ page0.bytes.ghost_name
-    pub course : before told new (course_at admits room k (state_of j p b) rest page.next) ≡ whole
+    pub course : told_before told new (course_at admits room k (state_of j p b) rest page.next) ≡ whole
 
   -- before the first one
   pub begun : (k : ℕ) (rest : List ℕ) → page0.next ≤ room → course_at admits room k (state_of j p b0) rest page0.next ≡ whole → Underway k rest b0 page0
@@ -65,7 +65,7 @@ module _ {J P : Type 0} (j : journal.Ghosts J) (p : policy.Ghosts P) (b0 : Book 
   pub finished : (k : ℕ) (rest : List ℕ) (b : Book J P j p) (page : Page) (r : Result (Unit {0}) Bad) → Underway k rest b page
       → course_at admits room k (state_of j p b) rest page.next ≡ over_at b.moment r → MadeAll j p b0 whole page0 r b page
   finished k rest b page r U ends =
-      let last : MadeAll j p b0 (before U.told U.new (over_at b.moment r)) page0 r b page = record {
+      let last : MadeAll j p b0 (told_before U.told U.new (over_at b.moment r)) page0 r b page = record {
         ended = refl;
         bytes = U.bytes ∙ ap (λ xs. laid page0.next xs page0.bytes.now) (sym (append-nil U.told));
         next = U.next ∙ ap (λ xs. page0.next + length xs) (sym (append-nil U.told));
@@ -73,7 +73,7 @@ module _ {J P : Type 0} (j : journal.Ghosts J) (p : policy.Ghosts P) (b0 : Book 
         same = U.same;
         after = record { journal = subst (λ ws. Wrote j b0.journal ws b.journal) (sym (append-nil U.new)) U.wrote; moment = refl; policy = U.policy; reading = U.reading };
       } in
-      subst (λ c. MadeAll j p b0 c page0 r b page) (ap (before U.told U.new) (sym ends) ∙ U.course) last
+      subst (λ c. MadeAll j p b0 c page0 r b page) (ap (told_before U.told U.new) (sym ends) ∙ U.course) last
 
   pub none_left : (n k : ℕ) (rest : List ℕ) (b : Book J P j p) (page : Page) → n ≡ suc k → (length rest == 0) ≡ true → Underway n rest b page → MadeAll j p b0 whole page0 (Ok tt) b page
   none_left n k rest b page some done U =
@@ -109,8 +109,8 @@ module _ {J P : Type 0} (j : journal.Ghosts J) (p : policy.Ghosts P) (b0 : Book 
         let f = λ (c : Call) (rest : List ℕ). with_call admits room (state_of j p b) c page.next (λ s' n'. course_at admits room k s' rest n') in
         ap (λ d. cond d (over_at b.moment (Ok tt)) (with_read admits room (state_of j p b) (call_at rest) f)) more ∙ ap (λ r. with_read admits room (state_of j p b) r f) read
 
-    by_call : before U.told U.new (with_call admits room (state_of j p b) c page.next (λ s' n'. course_at admits room k s' rest' n')) ≡ whole
-    by_call = ap (before U.told U.new) (sym unrolled) ∙ U.course
+    by_call : told_before U.told U.new (with_call admits room (state_of j p b) c page.next (λ s' n'. course_at admits room k s' rest' n')) ≡ whole
+    by_call = ap (told_before U.told U.new) (sym unrolled) ∙ U.course
 
     same_room : length page.bytes.now ≡ room
     same_room = ap length U.bytes ∙ length_laid page0.next U.told page0.bytes.now U.fits
@@ -161,10 +161,10 @@ module _ {J P : Type 0} (j : journal.Ghosts J) (p : policy.Ghosts P) (b0 : Book 
             fits = omega (arith, stands, long);
             same = M.same ∙ U.same;
             course =
-                ap (λ n. before (U.told ++ T) (U.new ++ W) (course_at admits room k (state_of j p b') rest' n)) moved_on
-                ∙ ap (λ s. before (U.told ++ T) (U.new ++ W) (course_at admits room k s rest' (page.next + length T))) (state_after j p b W t b' went)
+                ap (λ n. told_before (U.told ++ T) (U.new ++ W) (course_at admits room k (state_of j p b') rest' n)) moved_on
+                ∙ ap (λ s. told_before (U.told ++ T) (U.new ++ W) (course_at admits room k s rest' (page.next + length T))) (state_after j p b W t b' went)
                 ∙ sym (before_before U.told T U.new W _)
-                ∙ ap (λ d. before U.told U.new (cond d (before T W (course_at admits room k (after (state_of j p b) W t) rest' (page.next + length T))) (record { told = []; new = W; moment = t; ended = Err Output }))) (sym yes)
+                ∙ ap (λ d. told_before U.told U.new (cond d (told_before T W (course_at admits room k (after (state_of j p b) W t) rest' (page.next + length T))) (record { told = []; new = W; moment = t; ended = Err Output }))) (sym yes)
                 ∙ by_call;
           }
 
@@ -173,7 +173,7 @@ module _ {J P : Type 0} (j : journal.Ghosts J) (p : policy.Ghosts P) (b0 : Book 
       last_one x err =
           let no : room_left ≡ false = put_fails room_left x (sym err ∙ answer) in
           let here : Course = record { told = []; new = W; moment = t; ended = Err Output } in
-          let last : MadeAll j p b0 (before U.told U.new here) page0 r b' page' = record {
+          let last : MadeAll j p b0 (told_before U.told U.new here) page0 r b' page' = record {
             ended = answer ∙ ap (λ d. cond d (Ok tt) (Err Output)) no;
             bytes = bytes ∙ ap (λ d. cond d (laid page.next T page.bytes.now) page.bytes.now) no ∙ U.bytes ∙ ap (λ xs. laid page0.next xs page0.bytes.now) (sym (append-nil U.told));
             next = next ∙ ap (λ d. cond d (page.next + length T) page.next) no ∙ U.next ∙ ap (λ xs. page0.next + length xs) (sym (append-nil U.told));
@@ -182,4 +182,4 @@ module _ {J P : Type 0} (j : journal.Ghosts J) (p : policy.Ghosts P) (b0 : Book 
             after = record { journal = both_wrote; moment = went.moment; policy = went.policy ∙ U.policy; reading = went.reading ∙ U.reading };
           } in
           subst (λ c. MadeAll j p b0 c page0 r b' page')
-          (ap (λ d. before U.told U.new (cond d (before T W (course_at admits room k (after (state_of j p b) W t) rest' (page.next + length T))) here)) (sym no) ∙ by_call) last
+          (ap (λ d. told_before U.told U.new (cond d (told_before T W (course_at admits room k (after (state_of j p b) W t) rest' (page.next + length T))) here)) (sym no) ∙ by_call) last

@@ -4,7 +4,7 @@ use Rattle.meaning.specs.declared.order.Order.{Order}
 use Rattle.meaning.specs.declared.record.Record.{Record}
 use Rattle.meaning.specs.declared.refusal.Refusal.TheVariants.{AnswersTooShort}
 use Rattle.meaning.specs.Batches.{Answer, taken}
-use Rattle.meaning.specs.Calls.{State, answered, moved, opens_not, open_writes, runs_not, ran, run_writes, run_answers, moves_not, move_lapses, moved_to, reports_not, report_bytes, account_seen, reservation_seen}
+use Rattle.meaning.specs.Calls.{State, answered, move_answer, opens_not, open_writes, runs_not, ran, run_writes, run_answers, moves_not, move_lapses, moved_to, reports_not, report_bytes, account_seen, reservation_seen}
 use Rattle.meaning.specs.Listing.{listing}
 use Rattle.meaning.specs.Reading.{reading as reading_of}
 use Rattle.meaning.specs.Rules.{Policy}
@@ -30,7 +30,7 @@ module _ (policy : Policy) (s : State) (os : List Order) where
   abbrev pub tells : Step → List ℕ
   tells (Open A) = told_opened (answered (opens_not policy s A) tt)
   tells (Run n places) = told_ran (answered (runs_not policy s os (no_answers places)) (taken (ran policy s os))) (run_answers policy s os (no_answers places))
-  tells (Move t places) = told_moved (answered (moves_not policy s t (no_lapses places)) (moved s.journal s.moment t)) (move_lapses policy s t (no_lapses places))
+  tells (Move t places) = told_moved (answered (moves_not policy s t (no_lapses places)) (move_answer s.journal s.moment t)) (move_lapses policy s t (no_lapses places))
   tells (Report places) = told_reported (answered (reports_not policy s (no_bytes places)) (length (listing s.journal s.moment))) (report_bytes policy s (no_bytes places))
   tells (Account n) = told_account (account_seen policy s n)
   tells (Reservation n) = told_reservation (reservation_seen policy s n)
@@ -70,8 +70,8 @@ abbrev pub over_at : ℕ → Result (Unit {0}) Bad → Course
 over_at t r = record { told = []; new = []; moment = t; ended = r }
 
 -- one with a call before it
-abbrev pub before : List ℕ → List Record → Course → Course
-before told new c = record { told = told ++ c.told; new = new ++ c.new; moment = c.moment; ended = c.ended }
+abbrev pub told_before : List ℕ → List Record → Course → Course
+told_before told new c = record { told = told ++ c.told; new = new ++ c.new; moment = c.moment; ended = c.ended }
 
 module _ (policy : Policy) (room : ℕ) where
   -- a call, and what follows it. The output has n bytes already, and room for so many: where what it is told has none, it
@@ -81,7 +81,7 @@ module _ (policy : Policy) (room : ℕ) where
       let told = tells policy s c.orders c.step in
       let new = writes policy s c.orders c.step in
       let t = comes_to policy s c.orders c.step in
-      cond (nat_le (n + length told) room) (before told new (rest (after s new t) (n + length told))) (record { told = []; new = new; moment = t; ended = Err Output })
+      cond (nat_le (n + length told) room) (told_before told new (rest (after s new t) (n + length told))) (record { told = []; new = new; moment = t; ended = Err Output })
 
   -- calls one after another
   abbrev pub course : State → List Call → ℕ → Course
@@ -90,8 +90,8 @@ module _ (policy : Policy) (room : ℕ) where
 
 -- how a script ends whose calls came to c, in an output of so much room: where all of them went through, the end is told,
 -- if it has room
-abbrev pub closed : (room : ℕ) → Course → (end : List ℕ) → Result (Unit {0}) Bad
-closed room c end = then_do c.ended (λ _. cond (nat_le (length c.told + length end) room) (Ok tt) (Err Output))
+abbrev pub script_end : (room : ℕ) → Course → (end : List ℕ) → Result (Unit {0}) Bad
+script_end room c end = then_do c.ended (λ _. cond (nat_le (length c.told + length end) room) (Ok tt) (Err Output))
 
 -- what was told, and the end where it was told
 abbrev pub with_end : Result (Unit {0}) Bad → List ℕ → List ℕ → List ℕ

@@ -5,7 +5,7 @@ use Rattle.book.specs.States.{begins}
 use Rattle.scripts.specs.declared.bad.Bad.{Bad}
 use Rattle.scripts.specs.declared.bad.Bad.TheVariants.{Head as NoHead, Journal, Policy, Cut, Call as NoCall, Order, List as TooLong, Output}
 use Rattle.scripts.specs.declared.head.Head.{Head}
-use Rattle.scripts.specs.Courses.{Course, course, closed, with_end}
+use Rattle.scripts.specs.Courses.{Course, course, script_end, with_end}
 use Rattle.scripts.specs.Forms.{Call}
 use Rattle.scripts.specs.Runs.{policy_named, entries_found, spare_found, memory_left, told_last}
 
@@ -21,7 +21,7 @@ module _ (h : Head) (cs : List Call) (m o : List ℕ) where
 -- Any script, by what is read of it: a bad one ends by what is bad in it, is told nothing, and changes nothing.
 
 abbrev pub ending : Result (Head × List Call) Bad → (m o : List ℕ) → Result (Unit {0}) Bad
-ending (Ok (h, cs)) m o = closed (length o) (went h cs m o) (end_told h cs m o)
+ending (Ok (h, cs)) m o = script_end (length o) (went h cs m o) (end_told h cs m o)
 ending (Err b) m o = Err b
 
 -- the bytes that are told

@@ -1,10 +1,10 @@
 -- The form of a script: a head, and one call after another until it ends.
-use Rattle.std.specs.Prelude.{ℕ, zero, suc, cond, List, [], ◌∷◌, length, take, drop, slice_index, Ok, Err, Result, ◌==◌, nat_le, nat_lt}
-use Rattle.std.specs.Int.{w16, w32, w64, from_be_bytes}
+use Rattle.std.specs.Prelude.{ℕ, zero, suc, cond, List, [], ◌∷◌, length, take, drop, Ok, Err, Result, ◌==◌, nat_le, nat_lt}
 use Rattle.meaning.specs.declared.opening.Opening.{Opening}
 use Rattle.meaning.specs.declared.order.Action.{Action}
 use Rattle.meaning.specs.declared.order.Action.TheVariants.{Transfer, Reserve, Post, Void}
 use Rattle.meaning.specs.declared.order.Order.{Order}
+use Rattle.layout.specs.Layout.{byte, u16_at, u32_at, u64_at}
 use Rattle.scripts.specs.declared.bad.Bad.{Bad}
 use Rattle.scripts.specs.declared.bad.Bad.TheVariants.{Head as NoHead, Journal as NoJournal, Policy as NoPolicy, Cut, Call as NoCall, Order as NoOrder, List as TooLong}
 use Rattle.scripts.specs.declared.head.Head.{Head}
@@ -16,20 +16,6 @@ use Rattle.scripts.specs.declared.plain.PlainPolicy.{PlainPolicy}
 use Rattle.scripts.specs.declared.plain.PlainPolicy.TheVariants.{Open as OpenToAll, Floor, Ceiling}
 use Rattle.scripts.specs.declared.step.Step.{Step}
 use Rattle.scripts.specs.declared.step.Step.TheVariants.{Open, Run, Move, Report, Account, Reservation, Moment, Reading}
-
--- the numbers in the bytes from a place on, the byte of most weight first
-module _ (bs : List ℕ) (i : ℕ) where
-  abbrev pub byte : ℕ
-  byte = slice_index bs i
-
-  abbrev pub u16_at : ℕ
-  u16_at = from_be_bytes w16 (take 2 (drop i bs))
-
-  abbrev pub u32_at : ℕ
-  u32_at = from_be_bytes w32 (take 4 (drop i bs))
-
-  abbrev pub u64_at : ℕ
-  u64_at = from_be_bytes w64 (take 8 (drop i bs))
 
 -- what is made of the next n bytes, where there are so many
 abbrev pub with_next : {X : Type 0} → ℕ → List ℕ → (List ℕ → Result X Bad) → Result X Bad

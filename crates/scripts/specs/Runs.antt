@@ -5,6 +5,7 @@ use Rattle.meaning.specs.declared.entry.Entry.{Entry}
 use Rattle.meaning.specs.declared.record.Record.{Record}
 use Rattle.meaning.specs.Policies.{by_class}
 use Rattle.meaning.specs.Rules.{Policy}
+use Rattle.journal.specs.Rolls.{roll_room}
 use Rattle.journal.specs.Strips.{made_list, made_spare}
 use Rattle.steps.specs.Written.{entries_of}
 use Rattle.clients.specs.Rounds.{left, in_use}
@@ -28,10 +29,10 @@ module _ (m : List ℕ) (u : ℕ) where
   entries_found StripAndRoll = made_list m u
 
   abbrev pub spare_found : JournalKind → ℕ
-  spare_found Roll = 256
+  spare_found Roll = roll_room
   spare_found Strip = made_spare m u
-  spare_found RollAndStrip = min (made_spare m u) 256
-  spare_found StripAndRoll = min (made_spare m u) 256
+  spare_found RollAndStrip = min (made_spare m u) roll_room
+  spare_found StripAndRoll = min (made_spare m u) roll_room
 
   -- the memory when these records have joined
   abbrev pub memory_left : JournalKind → List Record → List ℕ

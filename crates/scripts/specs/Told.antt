@@ -12,7 +12,7 @@ use Rattle.meaning.specs.declared.reservation.Reservation.{Reservation}
 use Rattle.layout.specs.Layout.{bytes_of}
 use Rattle.meaning.specs.Batches.{Answer}
 use Rattle.meaning.specs.Numbers.{answer_of, number_of}
-use Rattle.meaning.specs.Questions.{Standing}
+use Rattle.meaning.specs.declared.standing.Standing.{Standing}
 
 abbrev pub as_2 : ℕ → List ℕ
 as_2 = to_be_bytes w16
@@ -43,7 +43,7 @@ told_reported r bytes = 4 ∷ answer_of r ∷ (as_8 (or_0 (λ n. n) r) ++ bytes)
 abbrev pub told_account : Option Standing → List ℕ
 told_account None = 5 ∷ 0 ∷ []
 told_account (Some s) =
-    5 ∷ 1 ∷ (as_4 s.account.number ++ (as_2 s.account.ledger ++ (s.account.class ∷ (as_8 s.account.limit ++ (as_8 s.account.label ++ (as_8 s.dp ++ (as_8 s.dq ++ (as_8 s.cp ++ as_8 s.cq))))))))
+    5 ∷ 1 ∷ (as_4 s.account.number ++ (as_2 s.account.ledger ++ (s.account.class ∷ (as_8 s.account.limit ++ (as_8 s.account.label ++ (as_8 s.debits_pending ++ (as_8 s.debits_posted ++ (as_8 s.credits_pending ++ as_8 s.credits_posted))))))))
 
 abbrev pub fate_number : Fate → ℕ
 fate_number Live = 0

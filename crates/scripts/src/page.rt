@@ -1,6 +1,6 @@
 // The output: bytes one after another, as far as there is room.
 ghost use Rattle.std.specs.Prelude.{◌≡◌, Ok, Err, ◌+◌, ◌≤◌, ◌^◌, length, Some, None, cond, nat_lt};
-ghost use Rattle.scripts.specs.Pages.{joined, laid, if_room, Put};
+ghost use Rattle.scripts.specs.Pages.{joined_parts, laid, if_fits, Put};
 ghost use Rattle.scripts.specs.declared.bad.Bad.TheVariants.{Output};
 
 use crate::bad::Bad;
@@ -37,7 +37,7 @@ impl<'a> Page<'a> {
 
     // Whether so many bytes more fit.
     pub fn has_room(&self, length: usize) -> Result<(), Bad>
-        ensures { result ≡ if_room self.now length (Ok tt) (Err Output) }
+        ensures { result ≡ if_fits self.now length (Ok tt) (Err Output) }
     {
         let end = self.next.checked_add(length).ok_or(Bad::Output)?;
         if end > self.bytes.len() {
@@ -48,7 +48,7 @@ impl<'a> Page<'a> {
 
     // Where parts end that are put one behind the other.
     fn end_of(&self, parts: &[&[u8]]) -> Option<usize>
-        ensures { result ≡ cond (nat_lt (self.now.next + length (joined parts.now)) (2 ^ 64)) (Some (self.now.next + length (joined parts.now))) None }
+        ensures { result ≡ cond (nat_lt (self.now.next + length (joined_parts parts.now)) (2 ^ 64)) (Some (self.now.next + length (joined_parts parts.now))) None }
     {
         let mut end = self.next;
         for part in parts {
@@ -71,10 +71,10 @@ impl<'a> Page<'a> {
 
     // Puts parts that fit.
     pub(crate) fn put_each(&mut self, parts: &[&[u8]])
-        requires { self.old.next + length (joined parts.now) ≤ length self.old.bytes.now }
+        requires { self.old.next + length (joined_parts parts.now) ≤ length self.old.bytes.now }
         ensures same { self.new.bytes.ghost_name ≡ self.old.bytes.ghost_name }
-        ensures bytes { self.new.bytes.now ≡ laid self.old.next (joined parts.now) self.old.bytes.now }
-        ensures next { self.new.next ≡ self.old.next + length (joined parts.now) }
+        ensures bytes { self.new.bytes.now ≡ laid self.old.next (joined_parts parts.now) self.old.bytes.now }
+        ensures next { self.new.next ≡ self.old.next + length (joined_parts parts.now) }
     {
         for part in parts {
             self.put_one(part);
@@ -84,7 +84,7 @@ impl<'a> Page<'a> {
     // Puts the parts one behind the other, or nothing where not all of them fit.
     pub fn put(&mut self, parts: &[&[u8]]) -> Result<(), Bad>
         ensures same { self.new.bytes.ghost_name ≡ self.old.bytes.ghost_name }
-        ensures put { Put self.old (joined parts.now) result self.new }
+        ensures put { Put self.old (joined_parts parts.now) result self.new }
     {
         let end = self.end_of(parts).ok_or(Bad::Output)?;
         if end > self.bytes.len() {

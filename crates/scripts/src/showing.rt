@@ -4,7 +4,7 @@ ghost use Rattle.layout.specs.Layout.{bytes_of as entry_bytes};
 ghost use Rattle.std.specs.Option.{option_map};
 ghost use Rattle.meaning.specs.Numbers.{answer_of};
 ghost use Rattle.meaning.specs.Rows.{standing_of};
-ghost use Rattle.scripts.specs.Pages.{laid, if_room, Put, PutBefore};
+ghost use Rattle.scripts.specs.Pages.{laid, if_fits as if_room, Put, PutBefore};
 ghost use Rattle.scripts.specs.declared.bad.Bad.TheVariants.{Output};
 ghost use Rattle.scripts.specs.Told.{as_4, or_0, told_opened, told_ran, told_moved, told_reported, told_account, fate_number, told_reservation, told_moment, told_reading, told_journal};
 

@@ -2,9 +2,9 @@
 use crate::told::{show_refusal, show_told};
 use book::Book;
 use journal::Journal;
-use meaning::{Opening, Order, Refusal, number_of};
+use meaning::{Opening, Order, Refusal, Standing, number_of};
 use policy::Policy;
-use promise::{Ask, Statement, Told};
+use promise::{Ask, Told};
 use std::io;
 use std::io::Write;
 
@@ -26,7 +26,7 @@ pub fn ask<J: Journal, P: Policy>(
         Ask::Reservation(number) => show_fate(rt, book, *number),
         Ask::Account(number) => show_told(
             rt,
-            &Told::Account(book.account(*number).map(Statement::from)),
+            &Told::Account(book.account(*number).map(Standing::from)),
         ),
         Ask::Moment => show_told(rt, &Told::Moment(book.moment())),
         Ask::Reading => show_told(rt, &Told::Reading(book.reading())),

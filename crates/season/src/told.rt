@@ -1,6 +1,6 @@
 // What a call is told, on a line.
-use meaning::{Reading, Refusal, Reservation, number_of};
-use promise::{Statement, Told};
+use meaning::{Reading, Refusal, Reservation, Standing, number_of};
+use promise::Told;
 use std::io;
 
 pub fn show_told(rt: &HostRuntime, told: &Told) -> io::Result<()> {
@@ -31,13 +31,13 @@ pub fn show_refusal(rt: &HostRuntime, call: &str, refusal: Refusal) -> io::Resul
     println!(rt; "{call} -> refused {refusal}")
 }
 
-fn show_account(rt: &HostRuntime, account: &Option<Statement>) -> io::Result<()> {
+fn show_account(rt: &HostRuntime, account: &Option<Standing>) -> io::Result<()> {
     match account {
         None => println!(rt; "no account"),
-        Some(statement) => {
-            let number = statement.account.number;
-            let (dp, dq) = (statement.debits_pending, statement.debits_posted);
-            let (cp, cq) = (statement.credits_pending, statement.credits_posted);
+        Some(standing) => {
+            let number = standing.account.number;
+            let (dp, dq) = (standing.debits_pending, standing.debits_posted);
+            let (cp, cq) = (standing.credits_pending, standing.credits_posted);
             println!(rt;
                 "account {number}: debits {dp} pending, {dq} posted; credits {cp} pending, {cq} posted"
             )

@@ -1,42 +1,34 @@
 -- What the tables refuse of a leg, and the policy after them, is what the rules refuse.
-use Rattle.std.proofs.Common.{◌≡◌, ℕ, ◌+◌, ◌≤◌, Bool, true, false, length, not, eqb, ltb, leb, [], ◌∷◌, Some, None, Option, sym, refl, ap, ◌∙◌, arith}
-use Rattle.std.specs.Option.{option_map}
-use Rattle.std.proofs.lemmas.Bool.{leb-true, leb-false, lt-ltb, le-ltb}
+use Rattle.std.proofs.Common.{◌≡◌, ℕ, ◌+◌, Bool, true, false, length, not, eqb, [], ◌∷◌, Some, None, Option, refl, ap, ◌∙◌}
+use Rattle.std.specs.Option.{option_map, option_or, option_and_then}
 use Rattle.meaning.specs.declared.opening.Opening.{Opening}
 use Rattle.meaning.specs.declared.refusal.Refusal.{Refusal}
+use Rattle.meaning.specs.declared.reservation.Reservation.{Reservation}
 use Rattle.meaning.specs.declared.refusal.Refusal.TheVariants.{SameAccount, LedgersDiffer, TopPassed, DebitNotAdmitted, CreditNotAdmitted}
-use Rattle.meaning.specs.Basics.{at, or_else, first_of}
+use Rattle.meaning.specs.Basics.{at, first_of}
 use Rattle.meaning.specs.declared.content.Content.TheVariants.{Post, Void}
-use Rattle.meaning.specs.Given.{Journal, Reserved, reservations, the_account, the_reservation, highest}
-use Rattle.meaning.specs.Questions.{Standing, standing, with_fate}
+use Rattle.meaning.specs.Given.{Journal, reservations, the_account, the_reservation, highest}
+use Rattle.meaning.specs.declared.standing.Standing.{Standing}
+use Rattle.meaning.specs.Questions.{standing, with_fate, account_asked, reservation_asked}
 use Rattle.meaning.specs.Rows.{debited, credited}
-use Rattle.meaning.specs.Rules.{Policy, number_refused, amount_refused, between_refused, parties_refused, room_refused, post_refused, void_refused, refused}
-use Rattle.meaning.specs.Sound.{top, fits}
+use Rattle.meaning.specs.Rules.{Policy, number_refused, amount_refused, pair_checks, policy_checks, between_checks, parties_refused, movement_refused, room_refused, part_refused, void_refused, refused}
+use Rattle.meaning.specs.Sound.{fits}
 use Rattle.balances.specs.Books.{Books, row_asked, held_asked}
-use Rattle.balances.specs.Judged.{number_judged, pair_judged, parties_judged, movement_judged, room_judged, open_judged, part_judged, void_judged, post_judged}
+use Rattle.balances.specs.Judged.{number_judged, pair_judged, movement_judged, room_judged, void_judged, post_judged}
 use Rattle.laws.specs.Steps.{Reads}
 use Rattle.image.specs.Image.{image_of}
 use Rattle.image.proofs.Asked.{asks}
 use Rattle.image.proofs.Oldest.{length-oldest}
-use Rattle.steps.specs.Legs.{asked_of, movement_refused}
 
 -- the policy is asked only about accounts that are there
 abbrev pub asked_if : Policy → Option Standing → Option Standing → Option Refusal
 asked_if policy None C = None
 asked_if policy (Some D) None = None
-asked_if policy (Some D) (Some C) = asked_of policy D C
-
--- what is no longer within the top is above it
-above_top : (m n : ℕ) → m ≡ n → not (leb m top) ≡ ltb top n
-above_top m n e = go (leb m top) refl
-  where
-    go : (b : Bool) → leb m top ≡ b → not b ≡ ltb top n
-    go true h = let le : m ≤ top = leb-true m top h in sym (le-ltb top n (omega arith))
-    go false h = let lt = leb-false m top h in sym (lt-ltb top n (omega arith))
+asked_if policy (Some D) (Some C) = first_of (policy_checks policy D C)
 
 -- four tests, and then two more that count only if the third and the fourth passed
 in_turn_lem : (a b f g x x' y y' : Bool) → (f ≡ true → x' ≡ x) → (g ≡ true → y' ≡ y)
-    → or_else (first_of ((a, SameAccount) ∷ (b, LedgersDiffer) ∷ (not f, TopPassed) ∷ (not g, TopPassed) ∷ [])) (first_of ((not x', DebitNotAdmitted) ∷ (not y', CreditNotAdmitted) ∷ []))
+    → option_or (first_of ((a, SameAccount) ∷ (b, LedgersDiffer) ∷ (not f, TopPassed) ∷ (not g, TopPassed) ∷ [])) (first_of ((not x', DebitNotAdmitted) ∷ (not y', CreditNotAdmitted) ∷ []))
     ≡ first_of ((a, SameAccount) ∷ (b, LedgersDiffer) ∷ (not f, TopPassed) ∷ (not g, TopPassed) ∷ (not x, DebitNotAdmitted) ∷ (not y, CreditNotAdmitted) ∷ [])
 in_turn_lem true b f g x x' y y' p q = refl
 in_turn_lem false true f g x x' y y' p q = refl
@@ -47,36 +39,34 @@ in_turn_lem false false true true x x' y y' p q =
     ∙ ap (λ v. first_of ((not x, DebitNotAdmitted) ∷ (not v, CreditNotAdmitted) ∷ [])) (q refl)
 
 module _ (policy : Policy) (J : Journal) (T p q : ℕ) where
-  between : (D C : Opening) → or_else (pair_judged (p + q) (standing J T D) (standing J T C)) (asked_of policy (debited p q (standing J T D)) (credited p q (standing J T C))) ≡ between_refused policy J T p q D C
+  between : (D C : Opening) → option_or (pair_judged (p + q) (standing J T D) (standing J T C)) (first_of (policy_checks policy (debited p q (standing J T D)) (credited p q (standing J T C)))) ≡ first_of (between_checks policy p q (standing J T D) (standing J T C))
   between D C =
       let d = standing J T D in
       let c = standing J T C in
-      let f = fits d.dp d.dq (p + q) in
-      let g = fits c.cp c.cq (p + q) in
-      let x = policy D.class D.limit (d.dp + p) (d.dq + q) d.cp d.cq in
-      let y = policy C.class C.limit c.dp c.dq (c.cp + p) (c.cq + q) in
+      let f = fits d.debits_pending d.debits_posted (p + q) in
+      let g = fits c.credits_pending c.credits_posted (p + q) in
+      let x = policy D.class D.limit (d.debits_pending + p) (d.debits_posted + q) d.credits_pending d.credits_posted in
+      let y = policy C.class C.limit c.debits_pending c.debits_posted (c.credits_pending + p) (c.credits_posted + q) in
       let a = eqb D.number C.number in
       let b = not (eqb D.ledger C.ledger) in
       in_turn_lem a b f g x _ y _
-      (λ e. ap (λ v. policy D.class D.limit (d.dp + at v p) (d.dq + at v q) d.cp d.cq) e)
-      (λ e. ap (λ v. policy C.class C.limit c.dp c.dq (c.cp + at v p) (c.cq + at v q)) e)
-      ∙ (ap (λ v. first_of ((a, SameAccount) ∷ (b, LedgersDiffer) ∷ (v, TopPassed) ∷ (not g, TopPassed) ∷ (not x, DebitNotAdmitted) ∷ (not y, CreditNotAdmitted) ∷ [])) (above_top (d.dp + d.dq + (p + q)) (d.dp + d.dq + p + q) (omega arith))
-      ∙ ap (λ v. first_of ((a, SameAccount) ∷ (b, LedgersDiffer) ∷ (ltb top (d.dp + d.dq + p + q), TopPassed) ∷ (v, TopPassed) ∷ (not x, DebitNotAdmitted) ∷ (not y, CreditNotAdmitted) ∷ [])) (above_top (c.cp + c.cq + (p + q)) (c.cp + c.cq + p + q) (omega arith)))
+      (λ e. ap (λ v. policy D.class D.limit (d.debits_pending + at v p) (d.debits_posted + at v q) d.credits_pending d.credits_posted) e)
+      (λ e. ap (λ v. policy C.class C.limit c.debits_pending c.debits_posted (c.credits_pending + at v p) (c.credits_posted + at v q)) e)
 
-  pub parties_judged_lem : (D C : Option Opening)
-      → or_else (parties_judged (p + q) (option_map (standing J T) D) (option_map (standing J T) C)) (asked_if policy (option_map (debited p q) (option_map (standing J T) D)) (option_map (credited p q) (option_map (standing J T) C)))
-      ≡ parties_refused policy J T p q D C
-  parties_judged_lem None C = refl
-  parties_judged_lem (Some D) None = refl
-  parties_judged_lem (Some D) (Some C) = between D C
+  pub parties_lem : (D C : Option Opening)
+      → option_or (parties_refused (pair_checks (p + q)) (option_map (standing J T) D) (option_map (standing J T) C)) (asked_if policy (option_map (debited p q) (option_map (standing J T) D)) (option_map (credited p q) (option_map (standing J T) C)))
+      ≡ parties_refused (between_checks policy p q) (option_map (standing J T) D) (option_map (standing J T) C)
+  parties_lem None C = refl
+  parties_lem (Some D) None = refl
+  parties_lem (Some D) (Some C) = between D C
 
-pub or_else_assoc : {X : Type 0} (x y z : Option X) → or_else (or_else x y) z ≡ or_else x (or_else y z)
-or_else_assoc None y z = refl
-or_else_assoc (Some x) y z = refl
+pub option_or-assoc : {X : Type 0} (x y z : Option X) → option_or (option_or x y) z ≡ option_or x (option_or y z)
+option_or-assoc None y z = refl
+option_or-assoc (Some x) y z = refl
 
-pub or_else_none : {X : Type 0} (x : Option X) → or_else x None ≡ x
-or_else_none None = refl
-or_else_none (Some x) = refl
+pub option_or-none : {X : Type 0} (x : Option X) → option_or x None ≡ x
+option_or-none None = refl
+option_or-none (Some x) = refl
 
 -- tables k that show J at T
 module _ (policy : Policy) (J : Journal) (T : ℕ) (h : Reads policy J) (k : Books) (is : k ≡ image_of J T) where
@@ -92,32 +82,25 @@ module _ (policy : Policy) (J : Journal) (T : ℕ) (h : Reads policy J) (k : Boo
   pub room_judged_lem : room_judged k ≡ room_refused (length (reservations J))
   room_judged_lem = ap room_judged is ∙ ap room_refused (length-oldest (with_fate J T) (reservations J))
 
-  pub movement_judged_lem : (n d c p q z : ℕ) → z ≡ p + q → or_else (movement_judged n d c z k) (asked_if policy (option_map (debited p q) (row_asked k d)) (option_map (credited p q) (row_asked k c))) ≡ movement_refused policy J T n d c p q
+  pub movement_judged_lem : (n d c p q z : ℕ) → z ≡ p + q → option_or (movement_judged n d c z k) (asked_if policy (option_map (debited p q) (row_asked k d)) (option_map (credited p q) (row_asked k c))) ≡ movement_refused policy J T n d c p q
   movement_judged_lem n d c p q z e =
       let ask : Option Standing → Option Standing → Option Refusal = λ D C. asked_if policy (option_map (debited p q) D) (option_map (credited p q) C) in
-      ap (λ m. or_else (movement_judged n d c m k) (ask (row_asked k d) (row_asked k c))) e
-      ∙ (or_else_assoc (number_judged n k) (or_else (amount_refused (p + q)) (parties_judged (p + q) (row_asked k d) (row_asked k c))) (ask (row_asked k d) (row_asked k c))
-      ∙ (ap (or_else (number_judged n k)) (or_else_assoc (amount_refused (p + q)) (parties_judged (p + q) (row_asked k d) (row_asked k c)) (ask (row_asked k d) (row_asked k c)))
-      ∙ (ap (λ D. or_else (number_judged n k) (or_else (amount_refused (p + q)) (or_else (parties_judged (p + q) D (row_asked k c)) (ask D (row_asked k c))))) (account_asked_lem d)
-      ∙ (ap (λ C. or_else (number_judged n k) (or_else (amount_refused (p + q)) (or_else (parties_judged (p + q) (option_map (standing J T) (the_account J d)) C) (ask (option_map (standing J T) (the_account J d)) C)))) (account_asked_lem c)
-      ∙ (ap (λ r. or_else (number_judged n k) (or_else (amount_refused (p + q)) r)) (parties_judged_lem policy J T p q (the_account J d) (the_account J c))
-      ∙ ap (λ r. or_else r (or_else (amount_refused (p + q)) (parties_refused policy J T p q (the_account J d) (the_account J c)))) (number_judged_lem n))))))
-
-  open_judged_lem : (o : Option Reserved) → open_judged (option_map (with_fate J T) o) ≡ void_refused policy J T o
-  open_judged_lem None = refl
-  open_judged_lem (Some R) = refl
+      ap (λ m. option_or (movement_judged n d c m k) (ask (row_asked k d) (row_asked k c))) e
+      ∙ (option_or-assoc (number_judged n k) (option_or (amount_refused (p + q)) (parties_refused (pair_checks (p + q)) (row_asked k d) (row_asked k c))) (ask (row_asked k d) (row_asked k c))
+      ∙ (ap (option_or (number_judged n k)) (option_or-assoc (amount_refused (p + q)) (parties_refused (pair_checks (p + q)) (row_asked k d) (row_asked k c)) (ask (row_asked k d) (row_asked k c)))
+      ∙ (ap (λ D. option_or (number_judged n k) (option_or (amount_refused (p + q)) (option_or (parties_refused (pair_checks (p + q)) D (row_asked k c)) (ask D (row_asked k c))))) (account_asked_lem d)
+      ∙ (ap (λ C. option_or (number_judged n k) (option_or (amount_refused (p + q)) (option_or (parties_refused (pair_checks (p + q)) (option_map (standing J T) (the_account J d)) C) (ask (option_map (standing J T) (the_account J d)) C)))) (account_asked_lem c)
+      ∙ (ap (λ r. option_or (number_judged n k) (option_or (amount_refused (p + q)) r)) (parties_lem policy J T p q (the_account J d) (the_account J c))
+      ∙ ap (λ r. option_or r (option_or (amount_refused (p + q)) (parties_refused (between_checks policy p q) (account_asked J T d) (account_asked J T c)))) (number_judged_lem n))))))
 
   pub void_judged_lem : (n r : ℕ) → void_judged n r k ≡ refused policy J T n (Void r)
   void_judged_lem n r =
-      ap (λ x. or_else x (open_judged (held_asked k r))) (number_judged_lem n)
-      ∙ ap (or_else (number_refused (highest J) n)) (ap open_judged (reservation_asked_lem r) ∙ open_judged_lem (the_reservation J r))
-
-  part_judged_lem : (z : ℕ) (o : Option Reserved) → or_else (void_refused policy J T o) (part_judged z (option_map (with_fate J T) o)) ≡ post_refused policy J T z o
-  part_judged_lem z None = refl
-  part_judged_lem z (Some R) = refl
+      ap (λ x. option_or x (void_refused (held_asked k r))) (number_judged_lem n)
+      ∙ ap (λ o. option_or (number_refused (highest J) n) (void_refused o)) (reservation_asked_lem r)
 
   pub post_judged_lem : (n r z : ℕ) → post_judged n r z k ≡ refused policy J T n (Post r z)
   post_judged_lem n r z =
-      ap (λ x. or_else x (part_judged z (held_asked k r))) (void_judged_lem n r)
-      ∙ (or_else_assoc (number_refused (highest J) n) (void_refused policy J T (the_reservation J r)) (part_judged z (held_asked k r))
-      ∙ ap (or_else (number_refused (highest J) n)) (ap (λ o. or_else (void_refused policy J T (the_reservation J r)) (part_judged z o)) (reservation_asked_lem r) ∙ part_judged_lem z (the_reservation J r)))
+      let part : Option Reservation → Option Refusal = option_and_then (λ (R : Reservation). part_refused z R.amount) in
+      ap (λ x. option_or x (part (held_asked k r))) (void_judged_lem n r)
+      ∙ (option_or-assoc (number_refused (highest J) n) (void_refused (reservation_asked J T r)) (part (held_asked k r))
+      ∙ ap (λ o. option_or (number_refused (highest J) n) (option_or (void_refused (reservation_asked J T r)) (part o))) (reservation_asked_lem r))

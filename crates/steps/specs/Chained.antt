@@ -1,6 +1,7 @@
 -- Chains: the legs one after another, and what a whole chain leaves.
-use Rattle.std.specs.Prelude.{◌≡◌, ℕ, ◌≤◌, true, List, [], map, length, is_ok, Some, None, Ok, Err, Option, Result}
+use Rattle.std.specs.Prelude.{◌≡◌, ℕ, ◌≤◌, true, List, [], map, length, is_ok, Result}
 use Rattle.std.specs.List.{AllByRecursion}
+use Rattle.std.specs.Result.{result_err}
 use Rattle.meaning.specs.declared.order.Order.{Order}
 use Rattle.meaning.specs.declared.refusal.Refusal.{Refusal}
 use Rattle.meaning.specs.declared.answers.Stop.{Stop}
@@ -17,14 +18,9 @@ use Rattle.laws.specs.Steps.{Ready}
 use Rattle.image.specs.Image.{image_of}
 use Rattle.steps.specs.Written.{journal_of, Wrote}
 
--- the first refused leg, if there is one
-abbrev pub stop_in : Result (Unit {0}) Stop → Option Stop
-stop_in (Ok x) = None
-stop_in (Err s) = Some s
-
 -- the legs of a chain, run up to the first that the rules refuse; where there is none, the tables show J with them
 pub record Ran (policy : Policy) (J : Journal) (T : ℕ) (os : List Order) (r : Result (Unit {0}) Stop) (after : Balances) : Type 0 where
-  pub stop : stop_in r ≡ first_refused policy J T os
+  pub stop : result_err r ≡ first_refused policy J T os
   pub tables : is_ok r ≡ true → books_of after ≡ image_of (grown J (map (leg_writes T) os)) T
   pub legs : is_ok r ≡ true → legs_of after ≡ length os
   pub sound : is_ok r ≡ true → AllByRecursion (λ o. sound (leg_writes T o) ≡ true) os

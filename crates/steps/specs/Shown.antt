@@ -1,5 +1,6 @@
 -- Tables that show a journal at a moment.
 use Rattle.std.specs.Prelude.{◌≡◌, ℕ, ◌≤◌, Bool, true, cond, ◌∷◌, is_ok, Result}
+use Rattle.std.specs.Result.{result_err}
 use Rattle.meaning.specs.declared.content.Content.{Content}
 use Rattle.meaning.specs.declared.refusal.Refusal.{Refusal}
 use Rattle.meaning.specs.Given.{Journal}
@@ -7,7 +8,6 @@ use Rattle.meaning.specs.Rules.{Policy, refused}
 use Rattle.meaning.specs.Sound.{last, sound}
 use Rattle.balances.specs.declared.balances.Balances.{Balances}
 use Rattle.balances.specs.Books.{books_of}
-use Rattle.balances.specs.Judged.{refusal_in}
 use Rattle.laws.specs.Steps.{Reads}
 use Rattle.image.specs.Image.{image_of, entry}
 
@@ -18,6 +18,6 @@ pub record Shown (policy : Policy) (J : Journal) (T : ℕ) (b : Balances) : Type
 
 -- a leg of this number and content: refused as the rules say, or the tables show J with its entry, which keeps the rules
 pub record Stepped (policy : Policy) (J : Journal) (T n : ℕ) (content : Content) (r : Result (Unit {0}) Refusal) (after : Balances) : Type 0 where
-  pub answer : refusal_in r ≡ refused policy J T n content
+  pub answer : result_err r ≡ refused policy J T n content
   pub tables : (linked : Bool) → books_of after ≡ cond (is_ok r) (image_of (entry n linked T content ∷ J) T) (image_of J T)
   pub sound : is_ok r ≡ true → T ≤ last → (linked : Bool) → sound (entry n linked T content) ≡ true

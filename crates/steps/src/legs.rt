@@ -1,15 +1,17 @@
 // One leg: its rules in their order, and what it does to the tables.
 ghost use Rattle.std.specs.Prelude.{◌≡◌, ℕ, ◌+◌, ◌^◌, ◌<◌, ◌≤◌, true, is_ok, if◌then◌else◌};
+ghost use Rattle.std.specs.Result.{result_err};
 ghost use Rattle.meaning.specs.declared.content.Content.TheVariants.{Transfer, Reserve, Post, Void};
 ghost use Rattle.meaning.specs.declared.fate.Fate.TheVariants.{Live};
+ghost use Rattle.meaning.specs.Basics.{first_of};
 ghost use Rattle.meaning.specs.Given.{Journal};
+ghost use Rattle.meaning.specs.Limits.{most_legs};
 ghost use Rattle.meaning.specs.Rows.{standing_of};
-ghost use Rattle.meaning.specs.Rules.{Policy as Admission, deadline as deadline_of, content_of};
+ghost use Rattle.meaning.specs.Rules.{Policy as Admission, policy_checks, movement_refused, deadline as deadline_of, content_of};
 ghost use Rattle.meaning.specs.Sound.{last, is_until};
-ghost use Rattle.balances.specs.Judged.{refusal_in};
 ghost use Rattle.balances.specs.Chains.{GoesOn};
 ghost use Rattle.balances.specs.Undone.{legs_of};
-ghost use Rattle.steps.specs.Legs.{asked_of, movement_refused, Narrow};
+ghost use Rattle.steps.specs.Legs.{Narrow};
 ghost use Rattle.steps.specs.Shown.{Shown, Stepped};
 
 use balances::{Chain, Movement};
@@ -18,7 +20,7 @@ use policy::Policy;
 
 // The policy's word on what two accounts would show.
 fn ask<P: Policy>(policy: &P, debit: &Account, credit: &Account) -> Result<(), Refusal>
-    ensures { refusal_in result ≡ asked_of (P.Policy.admits policy.now) (standing_of debit.now) (standing_of credit.now) }
+    ensures { result_err result ≡ first_of (policy_checks (P.Policy.admits policy.now) (standing_of debit.now) (standing_of credit.now)) }
 {
     if !policy.admits(debit.class, debit.limit, &debit.totals) {
         return Err(Refusal::DebitNotAdmitted);
@@ -37,7 +39,7 @@ fn check_movement<P: Policy>(
     movement: Movement,
 ) -> Result<(), Refusal>
     ensures narrow { Narrow movement.number movement.debit movement.credit }
-    ensures answer { (J : Journal) (T : ℕ) → Shown (P.Policy.admits policy.now) J T chain.now.balances.now → movement.pending + movement.posted < 2 ^ 64 → refusal_in result ≡ movement_refused (P.Policy.admits policy.now) J T movement.number movement.debit movement.credit movement.pending movement.posted }
+    ensures answer { (J : Journal) (T : ℕ) → Shown (P.Policy.admits policy.now) J T chain.now.balances.now → movement.pending + movement.posted < 2 ^ 64 → result_err result ≡ movement_refused (P.Policy.admits policy.now) J T movement.number movement.debit movement.credit movement.pending movement.posted }
 {
     let outlook = chain.outlook(&movement)?;
     ask(policy, &outlook.debit, &outlook.credit)
@@ -64,7 +66,7 @@ fn take_transfer<P: Policy>(
     amount: u64,
 ) -> Result<(), Refusal>
     ensures goes_on { GoesOn chain.old (is_ok result) chain.new }
-    ensures leg { (J : Journal) (T : ℕ) → Shown (P.Policy.admits policy.now) J T chain.old.balances.now → legs_of chain.old.balances.now < 16 → Stepped (P.Policy.admits policy.now) J T number (Transfer debit credit amount) result chain.new.balances.now }
+    ensures leg { (J : Journal) (T : ℕ) → Shown (P.Policy.admits policy.now) J T chain.old.balances.now → legs_of chain.old.balances.now < most_legs → Stepped (P.Policy.admits policy.now) J T number (Transfer debit credit amount) result chain.new.balances.now }
 {
     let movement = Movement {
         number,
@@ -83,7 +85,7 @@ fn take_reserve<P: Policy>(
     held: Reservation,
 ) -> Result<(), Refusal>
     ensures goes_on { GoesOn chain.old (is_ok result) chain.new }
-    ensures leg { (J : Journal) (T : ℕ) → Shown (P.Policy.admits policy.now) J T chain.old.balances.now → legs_of chain.old.balances.now < 16 → held.fate ≡ Live → is_until T held.deadline ≡ true → Stepped (P.Policy.admits policy.now) J T held.number (Reserve held.debit held.credit held.amount held.deadline) result chain.new.balances.now }
+    ensures leg { (J : Journal) (T : ℕ) → Shown (P.Policy.admits policy.now) J T chain.old.balances.now → legs_of chain.old.balances.now < most_legs → held.fate ≡ Live → is_until T held.deadline ≡ true → Stepped (P.Policy.admits policy.now) J T held.number (Reserve held.debit held.credit held.amount held.deadline) result chain.new.balances.now }
 {
     let movement = Movement {
         number: held.number,
@@ -103,14 +105,14 @@ fn take_post(
     amount: u64,
 ) -> Result<(), Refusal>
     ensures goes_on { GoesOn chain.old (is_ok result) chain.new }
-    ensures leg { (policy : Admission) (J : Journal) (T : ℕ) → Shown policy J T chain.old.balances.now → legs_of chain.old.balances.now < 16 → Stepped policy J T number (Post reservation amount) result chain.new.balances.now }
+    ensures leg { (policy : Admission) (J : Journal) (T : ℕ) → Shown policy J T chain.old.balances.now → legs_of chain.old.balances.now < most_legs → Stepped policy J T number (Post reservation amount) result chain.new.balances.now }
 {
     chain.post(number, reservation, amount)
 }
 
 fn take_void(chain: &mut Chain<'_>, number: u32, reservation: u32) -> Result<(), Refusal>
     ensures goes_on { GoesOn chain.old (is_ok result) chain.new }
-    ensures leg { (policy : Admission) (J : Journal) (T : ℕ) → Shown policy J T chain.old.balances.now → legs_of chain.old.balances.now < 16 → Stepped policy J T number (Void reservation) result chain.new.balances.now }
+    ensures leg { (policy : Admission) (J : Journal) (T : ℕ) → Shown policy J T chain.old.balances.now → legs_of chain.old.balances.now < most_legs → Stepped policy J T number (Void reservation) result chain.new.balances.now }
 {
     chain.void(number, reservation)
 }
@@ -123,7 +125,7 @@ pub fn run_leg<P: Policy>(
     order: &Order,
 ) -> Result<(), Refusal>
     ensures goes_on { GoesOn chain.old (is_ok result) chain.new }
-    ensures leg { (J : Journal) → Shown (P.Policy.admits policy.now) J moment chain.old.balances.now → legs_of chain.old.balances.now < 16 → moment ≤ last → Stepped (P.Policy.admits policy.now) J moment order.now.number (content_of moment order.now.action) result chain.new.balances.now }
+    ensures leg { (J : Journal) → Shown (P.Policy.admits policy.now) J moment chain.old.balances.now → legs_of chain.old.balances.now < most_legs → moment ≤ last → Stepped (P.Policy.admits policy.now) J moment order.now.number (content_of moment order.now.action) result chain.new.balances.now }
 {
     let number = order.number;
     match order.action {

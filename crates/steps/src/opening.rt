@@ -1,10 +1,11 @@
 // Opening an account: its rules in their order, and its row in the tables.
 ghost use Rattle.std.specs.Prelude.{◌≡◌, ℕ, ◌^◌, ◌<◌, IfOk, OnOk, ◌==◌};
+ghost use Rattle.std.specs.Result.{result_err};
+ghost use Rattle.meaning.specs.Basics.{first_of};
 ghost use Rattle.meaning.specs.Given.{Journal};
 ghost use Rattle.meaning.specs.Rows.{standing_of};
-ghost use Rattle.meaning.specs.Rules.{Policy as Admission, opening_refused};
-ghost use Rattle.balances.specs.Judged.{refusal_in};
-ghost use Rattle.steps.specs.Openings.{place_refused, zeros_refused, at_zero, Narrowed, Opens};
+ghost use Rattle.meaning.specs.Rules.{Policy as Admission, place_checks, zeros_checks, opening_refused};
+ghost use Rattle.steps.specs.Openings.{at_zero, Narrowed, Opens};
 ghost use Rattle.steps.specs.Shown.{Shown};
 
 use balances::Balances;
@@ -14,7 +15,7 @@ use policy::Policy;
 
 // A number that is free, and a ledger.
 fn check_place(balances: &Balances, number: u32, ledger: u16) -> Result<(), Refusal>
-    ensures answer { (policy : Admission) (J : Journal) (T : ℕ) → Shown policy J T balances.now → refusal_in result ≡ place_refused J number ledger }
+    ensures answer { (policy : Admission) (J : Journal) (T : ℕ) → Shown policy J T balances.now → result_err result ≡ first_of (place_checks J number ledger) }
     ensures narrow { (number < 2 ^ 32) × (ledger < 2 ^ 16) }
 {
     if number == 0 || balances.account(number).is_some() {
@@ -28,7 +29,7 @@ fn check_place(balances: &Balances, number: u32, ledger: u16) -> Result<(), Refu
 
 // The policy's word on an account with four zeros.
 fn check_zeros<P: Policy>(policy: &P, class: u8, limit: u64) -> Result<(), Refusal>
-    ensures answer { refusal_in result ≡ zeros_refused (P.Policy.admits policy.now) class limit }
+    ensures answer { result_err result ≡ first_of (zeros_checks (P.Policy.admits policy.now) class limit) }
     ensures narrow { class < 2 ^ 8 }
 {
     if policy.admits(class, limit, &Totals::zero()) {
@@ -45,7 +46,7 @@ fn check_opening<P: Policy>(
     spare: u64,
     opening: &Opening,
 ) -> Result<Account, Refusal>
-    ensures answer { (J : Journal) (T : ℕ) → Shown (P.Policy.admits policy.now) J T balances.now → refusal_in result ≡ opening_refused (P.Policy.admits policy.now) J (spare == 0) opening.now }
+    ensures answer { (J : Journal) (T : ℕ) → Shown (P.Policy.admits policy.now) J T balances.now → result_err result ≡ opening_refused (P.Policy.admits policy.now) J (spare == 0) opening.now }
     ensures account { IfOk result (λ a. standing_of a ≡ at_zero opening.now) }
     ensures narrow { OnOk result (Narrowed opening.now) }
 {

@@ -1,13 +1,13 @@
 // The legs of a chain. The policy is asked between its calls, never by it: the outlook hands out what two accounts
 // would show.
 ghost use Rattle.std.specs.Prelude.{◌≡◌, ◌+◌, is_ok, IfOk, if◌then◌else◌};
-ghost use Rattle.std.specs.Option.{option_map};
-ghost use Rattle.meaning.specs.Basics.{or_else};
+ghost use Rattle.std.specs.Option.{option_map, option_or as or_else};
+ghost use Rattle.std.specs.Result.{result_err as refusal_in};
 ghost use Rattle.meaning.specs.Rows.{debited, credited};
 ghost use Rattle.balances.specs.Outlooks.{Shows};
 ghost use Rattle.meaning.specs.declared.fate.Event.TheVariants.{Post, Void};
 ghost use Rattle.balances.specs.Books.{books_of, held_place, row_asked};
-ghost use Rattle.balances.specs.Judged.{refusal_in, full_judged, reserve_judged, movement_judged, post_judged, void_judged, sum};
+ghost use Rattle.balances.specs.Judged.{full_judged, reserve_judged, movement_judged, post_judged, void_judged, sum};
 ghost use Rattle.balances.specs.Legs.{transferred, reserved, closed};
 ghost use Rattle.balances.specs.Chains.{GoesOn};
 ghost use Rattle.balances.specs.Undone.{noted_of};

@@ -1,7 +1,8 @@
 // Legs are noted, and handed back to be put back.
 ghost use Rattle.std.specs.Prelude.{◌≡◌, ◌<◌, ◌++◌, [], true, length, is_ok, map, IfNone};
 ghost use Rattle.std.specs.Option.{option_to_list};
-ghost use Rattle.balances.specs.Judged.{refusal_in, full_judged};
+ghost use Rattle.std.specs.Result.{result_err as refusal_in};
+ghost use Rattle.balances.specs.Judged.{full_judged};
 ghost use Rattle.balances.specs.Noted.{trace_of, no_legs, with_trace};
 
 use super::{Notes, Undo};

@@ -1,10 +1,11 @@
 // Which legs the tables refuse.
 ghost use Rattle.std.specs.Prelude.{◌≡◌, IfOk};
+ghost use Rattle.std.specs.Result.{result_err as refusal_in};
 ghost use Rattle.balances.specs.Shown.{shown};
 ghost use Rattle.balances.specs.Contents.{held_place, held_asked};
 ghost use Rattle.meaning.specs.Rows.{standing_of};
 ghost use Rattle.meaning.specs.Rules.{amount_refused, fate_refused, part_refused};
-ghost use Rattle.balances.specs.Judged.{refusal_in, number_judged, pair_judged, room_judged, void_judged, post_judged};
+ghost use Rattle.balances.specs.Judged.{number_judged, pair_judged, room_judged, void_judged, post_judged};
 
 use super::Tables;
 use meaning::limits::TOP;

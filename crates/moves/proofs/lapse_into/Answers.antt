@@ -1,8 +1,8 @@
 use Rattle.std.proofs.Common.{◌≡◌, length, get_or, set, sym, ap, ◌∙◌, arith}
+use Rattle.std.specs.Option.{unwrap_or}
 use Rattle.balances.specs.Books.{books_of}
-use Rattle.balances.specs.Lapses.{next_due}
-use Rattle.moves.specs.Turns.{number_or}
-use Rattle.moves.proofs.Stepping.{one_more, number_more, number_some, number_none}
+use Rattle.balances.specs.Lapses.{next_due, number_in}
+use Rattle.moves.proofs.Stepping.{one_more, number_more}
 use Rattle.moves.proofs.lapse_into.Goals as goal
 use Rattle.moves.proofs.lapse_into.Goals.{in-Some, in_default}
 
@@ -12,10 +12,10 @@ loop-place-preserved c =
     let xs = c.loop-place.places in
     let i = c.loop-place.place-index in
     let k = books_of c.loop-place.balances in
-    let written : c.match-lapse_next.places ≡ set xs i (number_or (get_or xs i 0) (next_due t k)) =
+    let written : c.match-lapse_next.places ≡ set xs i (unwrap_or (number_in (next_due t k)) (get_or xs i 0)) =
     elim c.match-lapse_next.branch [
-      | in-Some w ↦ w.places-is ∙ ap (set xs i) (sym (number_some (next_due t k) (get_or xs i 0) w.in-Some.number (sym c.lapse_next.ensures.number ∙ w.in-Some.is)))
-      | in_default w ↦ w.places-is ∙ ap (set xs i) (sym (number_none (next_due t k) (get_or xs i 0) (sym c.lapse_next.ensures.number ∙ w.in_default.is)))
+      | in-Some w ↦ w.places-is ∙ ap (set xs i) (sym (ap (λ o. unwrap_or o (get_or xs i 0)) (sym c.lapse_next.ensures.number ∙ w.in-Some.is)))
+      | in_default w ↦ w.places-is ∙ ap (set xs i) (sym (ap (λ o. unwrap_or o (get_or xs i 0)) (sym c.lapse_next.ensures.number ∙ w.in_default.is)))
     ] in
     let step = one_more (length xs) i t k (omega arith) in
     let long : length c.match-lapse_next.places ≡ length xs = omega arith in

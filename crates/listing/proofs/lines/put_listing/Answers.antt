@@ -2,8 +2,8 @@ use Rattle.std.proofs.Common.{ap, ◌∙◌, arith, rules}
 use Rattle.balances.specs.Books.{books_of}
 use Rattle.listing.specs.declared.page.Page.{Page}
 use Rattle.listing.specs.Lines.{keys_bytes}
-use Rattle.listing.specs.Pages.{written}
-use Rattle.listing.proofs.Room.{home_is, next_is, written_over}
+use Rattle.listing.specs.Pages.{with_bytes}
+use Rattle.listing.proofs.Room.{home_is, next_is, bytes_over}
 use Rattle.listing.proofs.lines.put_listing.Goals as goal
 
 pub returns-clause-length : goal.returns-clause-length
@@ -18,5 +18,5 @@ returns-clause-bytes c =
     let k = books_of c.args.balances.now in
     let start = c.new-page.result in
     let home = ap (λ (p : Page). p.bytes.ghost_name) c.keys.ensures ∙ home_is (keys_bytes k k.lines) start ∙ ap (λ (p : Page). p.bytes.ghost_name) c.new-page.ensures in
-    let bytes = ap (λ (p : Page). p.bytes.now) (c.keys.ensures ∙ ap (written (keys_bytes k k.lines)) c.new-page.ensures) ∙ written_over (keys_bytes k k.lines) _ (omega arith) in
+    let bytes = ap (λ (p : Page). p.bytes.now) (c.keys.ensures ∙ ap (with_bytes (keys_bytes k k.lines)) c.new-page.ensures) ∙ bytes_over (keys_bytes k k.lines) _ (omega arith) in
     search (rules, home, bytes)

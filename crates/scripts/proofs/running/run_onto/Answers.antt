@@ -3,7 +3,7 @@ use Rattle.std.specs.Prelude.{nat_le}
 use Rattle.meaning.specs.Calls.{over}
 use Rattle.book.specs.States.{begins}
 use Rattle.scripts.specs.declared.bad.Bad.TheVariants.{Output}
-use Rattle.scripts.specs.Courses.{Course, closed, with_end}
+use Rattle.scripts.specs.Courses.{Course, script_end, with_end}
 use Rattle.scripts.specs.Ended.{went, end_told, told}
 use Rattle.scripts.specs.Forms.{then_do}
 use Rattle.scripts.specs.Made.{Done, went_on}
@@ -32,7 +32,7 @@ returns-clause-ran c cs read =
     let D = subst (λ (c : Course). Done page c (told_last m h.used h.journal c.new) 0 r page') e R.done in
     let E = end_told h cs m o in
     let long : page.next + length w.told + (length E + 0) ≡ length w.told + length E = omega (arith, fresh.next) in
-    let ended : r ≡ closed (length o) w E = D.answer ∙ ap (λ n. then_do w.ended (λ _. cond (nat_le n (length page.bytes.now)) (Ok tt) (Err Output))) long ∙ ap (λ (bs : List ℕ). closed (length bs) w E) fresh.bytes in
+    let ended : r ≡ script_end (length o) w E = D.answer ∙ ap (λ n. then_do w.ended (λ _. cond (nat_le n (length page.bytes.now)) (Ok tt) (Err Output))) long ∙ ap (λ (bs : List ℕ). script_end (length bs) w E) fresh.bytes in
     let all = with_end r w.told E in
     let same : all ≡ told (Ok (h, cs)) m o = ap (λ r. with_end r w.told E) ended in
     let at_front : laid page.next all page.bytes.now ≡ over all o = ap (λ n. laid n all page.bytes.now) fresh.next ∙ ap (laid 0 all) fresh.bytes ∙ ap (λ n. all ++ drop n o) (zero-add (length all)) in

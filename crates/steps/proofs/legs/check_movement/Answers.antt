@@ -1,10 +1,10 @@
 use Rattle.std.proofs.Common.{Some, sym, ap, ◌∙◌, arith}
-use Rattle.std.specs.Option.{option_map}
+use Rattle.std.specs.Option.{option_map, option_or}
 use Rattle.std.proofs.lemmas.Result.{err_from_is_err_and}
-use Rattle.meaning.specs.Basics.{or_else}
+use Rattle.std.specs.Result.{result_err}
 use Rattle.meaning.specs.Rows.{standing_of, debited, credited}
 use Rattle.balances.specs.Books.{books_of, row_asked}
-use Rattle.balances.specs.Judged.{refusal_in, sum}
+use Rattle.balances.specs.Judged.{sum}
 use Rattle.steps.proofs.Judging.{asked_if, movement_judged_lem}
 use Rattle.steps.proofs.legs.check_movement.Goals as goal
 
@@ -18,8 +18,8 @@ returns-in_err-outlook g c = record {
       let m = a.movement in
       let k = books_of a.chain.now.balances.now in
       let policy = g.P.Policy.admits a.policy.now in
-      ap refusal_in p.1 ∙ (ap Some p.2
-      ∙ (ap (λ r. or_else r (asked_if policy (option_map (debited m.pending m.posted) (row_asked k m.debit)) (option_map (credited m.pending m.posted) (row_asked k m.credit)))) h
+      ap result_err p.1 ∙ (ap Some p.2
+      ∙ (ap (λ r. option_or r (asked_if policy (option_map (debited m.pending m.posted) (row_asked k m.debit)) (option_map (credited m.pending m.posted) (row_asked k m.credit)))) h
       ∙ movement_judged_lem policy J T shown.reads k shown.tables m.number m.debit m.credit m.pending m.posted (sum m.pending m.posted) (omega arith)));
 }
 
@@ -36,6 +36,6 @@ returns g c = record {
       c.ask.ensures
       ∙ (ap (λ C. asked_if policy (Some (standing_of o.debit)) C) (sym h.shown.credit)
       ∙ (ap (λ D. asked_if policy D (option_map (credited m.pending m.posted) (row_asked k m.credit))) (sym h.shown.debit)
-      ∙ (ap (λ r. or_else r (asked_if policy (option_map (debited m.pending m.posted) (row_asked k m.debit)) (option_map (credited m.pending m.posted) (row_asked k m.credit)))) h.answer
+      ∙ (ap (λ r. option_or r (asked_if policy (option_map (debited m.pending m.posted) (row_asked k m.debit)) (option_map (credited m.pending m.posted) (row_asked k m.credit)))) h.answer
       ∙ movement_judged_lem policy J T shown.reads k shown.tables m.number m.debit m.credit m.pending m.posted (sum m.pending m.posted) (omega arith))));
 }

@@ -1,9 +1,9 @@
 use Rattle.std.proofs.Common.{Some, sym, ap, ◌∙◌, arith}
 use Rattle.std.proofs.lemmas.Result.{err_from_is_err_and, IfOk-from_err}
 use Rattle.std.proofs.lemmas.Bool.{le-ltb, le-leb, lt-leb, eq-eqb, ne_eqb}
+use Rattle.std.specs.Result.{result_err}
 use Rattle.meaning.specs.Sound.{top}
 use Rattle.balances.specs.Books.{books_of}
-use Rattle.balances.specs.Judged.{refusal_in}
 use Rattle.steps.proofs.Accounts.{opened_count, place_first, count_stops, spare_stops, zeros_last, label_made}
 use Rattle.steps.proofs.opening.check_opening.Goals as goal
 
@@ -14,7 +14,7 @@ returns-in_err-check_place g c =
     record {
       answer = λ J T shown.
           let policy = g.P.Policy.admits c.args.policy.now in
-          ap refusal_in p.1 ∙ (ap Some p.2 ∙ sym (place_first policy J _ c.args.opening.now _ (c.in_err-check_place.ensures.answer policy J T shown)));
+          ap result_err p.1 ∙ (ap Some p.2 ∙ sym (place_first policy J _ c.args.opening.now _ (c.in_err-check_place.ensures.answer policy J T shown)));
       account = IfOk-from_err r _ c.from_residual.ensures.0;
       narrow = IfOk-from_err r _ c.from_residual.ensures.0;
     }
@@ -50,7 +50,7 @@ returns-in_err-check_zeros g c =
           let policy = g.P.Policy.admits c.args.policy.now in
           let A = c.args.opening.now in
           let count = opened_count policy J T shown.reads (books_of c.args.balances.now) shown.tables in
-          ap refusal_in p.1 ∙ (ap Some p.2 ∙ (c.in_err-check_zeros.ensures.answer
+          ap result_err p.1 ∙ (ap Some p.2 ∙ (c.in_err-check_zeros.ensures.answer
           ∙ sym (zeros_last policy J _ A (c.in_ok-check_place.ensures.answer policy J T shown) (le-ltb top A.limit c.if-opening-gt-TOP.false) (label_made A.label c.in_ok-label.label c.new.result c.new.ensures c.in_ok-label.ensures.value).0 (lt-leb 64 _ (omega (arith, c.opened.ensures))) (ne_eqb c.args.spare 0 c.if-spare-eq0.false))));
       account = IfOk-from_err r _ c.from_residual-in_err-check_zeros.ensures.0;
       narrow = IfOk-from_err r _ c.from_residual-in_err-check_zeros.ensures.0;
@@ -67,6 +67,6 @@ returns g c =
           let count = opened_count policy J T shown.reads (books_of c.args.balances.now) shown.tables in
           c.in_ok-check_zeros.ensures.answer
           ∙ sym (zeros_last policy J _ A (c.in_ok-check_place.ensures.answer policy J T shown) (le-ltb top A.limit c.if-opening-gt-TOP.false) label.0 (lt-leb 64 _ (omega (arith, c.opened.ensures))) (ne_eqb c.args.spare 0 c.if-spare-eq0.false));
-      account = λ i. record { account = record { number = A.number; ledger = A.ledger; class = A.class; limit = A.limit; label = label.1 i }; dp = zero.debits.0 i; dq = zero.debits.1 i; cp = zero.credits.0 i; cq = zero.credits.1 i };
+      account = λ i. record { account = record { number = A.number; ledger = A.ledger; class = A.class; limit = A.limit; label = label.1 i }; debits_pending = zero.debits.0 i; debits_posted = zero.debits.1 i; credits_pending = zero.credits.0 i; credits_posted = zero.credits.1 i };
       narrow = record { number = c.in_ok-check_place.ensures.narrow.0; ledger = c.in_ok-check_place.ensures.narrow.1; class = c.in_ok-check_zeros.ensures.narrow };
     }

@@ -1,5 +1,5 @@
 use Rattle.std.proofs.Common.{sym, ap, ◌∙◌}
-use Rattle.meaning.specs.Questions.{Standing}
+use Rattle.meaning.specs.declared.standing.Standing.{Standing}
 use Rattle.balances.specs.Books.{books_of, opened_with}
 use Rattle.laws.proofs.Passes.{opening_passes}
 use Rattle.image.proofs.Opened.{by_opening}

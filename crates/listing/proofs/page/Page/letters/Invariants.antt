@@ -1,7 +1,7 @@
 use Rattle.std.proofs.Common.{◌≡◌, drop}
-use Rattle.listing.specs.Letters.{letters_in}
-use Rattle.listing.specs.Pages.{written}
+use Rattle.meaning.specs.Listing.{letters_in}
+use Rattle.listing.specs.Pages.{with_bytes}
 use Rattle.listing.proofs.page.Page.letters.Given as goal
 
 abbrev pub invariant-loop-byte : goal.invariant-loop-byte
-invariant-loop-byte l = written (letters_in (drop l.byte-index l.name)) l.self ≡ written (letters_in l.name) l.initial.self
+invariant-loop-byte l = with_bytes (letters_in (drop l.byte-index l.name)) l.self ≡ with_bytes (letters_in l.name) l.initial.self
