@@ -4,7 +4,7 @@
 ghost use Rattle.std.specs.Prelude.{◌≡◌, ◌+◌, ◌-◌, ◌<◌, ◌≤◌, Bool, true, false, ◌++◌, length, take, drop, not, position};
 ghost use Rattle.std.specs.List.{insert, remove, prefix_len};
 ghost use Rattle.meaning.specs.Basics.{put as put_in};
-ghost use Rattle.ordered.specs.Laws.{LawfulOrder as Lawful, StaysInOrder, AnyOrderIn, TakenOut, TestsPassThrough, FrontsPass};
+ghost use Rattle.ordered.specs.Laws.{LawfulOrder, StaysInOrder, AnyOrderIn, TakenOut, TestsPassThrough, FrontsPass};
 ghost use Rattle.ordered.specs.Keyed.{KeysAgree};
 ghost use Rattle.ordered.specs.Orders.{due_before, line_before};
 ghost use Rattle.ordered.specs.Rows.{apart, without, row_with, count_with, row_without};
@@ -132,7 +132,7 @@ pub fn rows_stand<K: Key>()
 
 // What the two keys keep: each order is lawful, and both are those of the book's meaning.
 pub fn keys_stand()
-    ensures due { Lawful due_before }
-    ensures line { Lawful line_before }
+    ensures due { LawfulOrder due_before }
+    ensures line { LawfulOrder line_before }
     ensures meant { KeysAgree }
 {}

@@ -4,7 +4,7 @@ ghost use Rattle.layout.specs.Layout.{bytes_of as entry_bytes};
 ghost use Rattle.std.specs.Option.{option_map};
 ghost use Rattle.meaning.specs.Numbers.{answer_of};
 ghost use Rattle.meaning.specs.Rows.{standing_of};
-ghost use Rattle.scripts.specs.Pages.{laid, if_fits as if_room, Put, PutBefore};
+ghost use Rattle.scripts.specs.Pages.{laid, if_fits, Put, PutBefore};
 ghost use Rattle.scripts.specs.declared.bad.Bad.TheVariants.{Output};
 ghost use Rattle.scripts.specs.Told.{as_4, or_0, told_opened, told_ran, told_moved, told_reported, told_account, fate_number, told_reservation, told_moment, told_reading, told_journal};
 
@@ -208,7 +208,7 @@ fn put_entries<J: Journal>(page: &mut Page<'_>, journal: &J)
 }
 
 fn check_room(page: &Page<'_>, count: u64) -> Result<(), Bad>
-    ensures { result ≡ if_room page.now (count * 48 + 25) (Ok tt) (Err Output) }
+    ensures { result ≡ if_fits page.now (count * 48 + 25) (Ok tt) (Err Output) }
 {
     page.has_room(length_of(count).ok_or(Bad::Output)?)
 }

@@ -1,5 +1,6 @@
 // Legs are noted as they are taken, and put back together.
 ghost use Rattle.std.specs.Prelude.{◌≡◌, ◌+◌, ◌<◌};
+ghost use Rattle.meaning.specs.Limits.{most_legs};
 ghost use Rattle.balances.specs.Books.{books_of};
 ghost use Rattle.balances.specs.Legs.{transferred, reserved, closed};
 ghost use Rattle.balances.specs.Undone.{legs_of, rolled_back};
@@ -21,8 +22,8 @@ impl Balances {
     // say it.
     pub(crate) fn transfer(&mut self, number: u32, debit: u32, credit: u32, amount: u64)
         ensures books { books_of self.new ≡ transferred number debit credit amount (books_of self.old) }
-        ensures back { legs_of self.old < 16 → rolled_back self.new ≡ rolled_back self.old }
-        ensures legs { legs_of self.old < 16 → legs_of self.new ≡ legs_of self.old + 1 }
+        ensures back { legs_of self.old < most_legs → rolled_back self.new ≡ rolled_back self.old }
+        ensures legs { legs_of self.old < most_legs → legs_of self.new ≡ legs_of self.old + 1 }
     {
         let no_slot = self.tables.reserved();
         self.notes.note(self.tables.trace(debit, credit, no_slot));
@@ -32,8 +33,8 @@ impl Balances {
     // Sets an amount aside.
     pub(crate) fn reserve(&mut self, held: Reservation)
         ensures books { books_of self.new ≡ reserved held (books_of self.old) }
-        ensures back { legs_of self.old < 16 → rolled_back self.new ≡ rolled_back self.old }
-        ensures legs { legs_of self.old < 16 → legs_of self.new ≡ legs_of self.old + 1 }
+        ensures back { legs_of self.old < most_legs → rolled_back self.new ≡ rolled_back self.old }
+        ensures legs { legs_of self.old < most_legs → legs_of self.new ≡ legs_of self.old + 1 }
     {
         let slot = self.tables.reserved();
         self.notes
@@ -44,8 +45,8 @@ impl Balances {
     // Ends the reservation at a place, and posts a part of it.
     pub(crate) fn close(&mut self, number: u32, slot: usize, event: Event, part: u64)
         ensures books { books_of self.new ≡ closed event number slot part (books_of self.old) }
-        ensures back { legs_of self.old < 16 → rolled_back self.new ≡ rolled_back self.old }
-        ensures legs { legs_of self.old < 16 → legs_of self.new ≡ legs_of self.old + 1 }
+        ensures back { legs_of self.old < most_legs → rolled_back self.new ≡ rolled_back self.old }
+        ensures legs { legs_of self.old < most_legs → legs_of self.new ≡ legs_of self.old + 1 }
     {
         let held = self.tables.reservation_at(slot);
         self.notes

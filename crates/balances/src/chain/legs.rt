@@ -1,8 +1,8 @@
 // The legs of a chain. The policy is asked between its calls, never by it: the outlook hands out what two accounts
 // would show.
 ghost use Rattle.std.specs.Prelude.{◌≡◌, ◌+◌, is_ok, IfOk, if◌then◌else◌};
-ghost use Rattle.std.specs.Option.{option_map, option_or as or_else};
-ghost use Rattle.std.specs.Result.{result_err as refusal_in};
+ghost use Rattle.std.specs.Option.{option_map, option_or};
+ghost use Rattle.std.specs.Result.{result_err};
 ghost use Rattle.meaning.specs.Rows.{debited, credited};
 ghost use Rattle.balances.specs.Outlooks.{Shows};
 ghost use Rattle.meaning.specs.declared.fate.Event.TheVariants.{Post, Void};
@@ -22,7 +22,7 @@ impl Chain<'_> {
     // inlined, since two accounts are wide.
     #[inline(always)]
     fn parties(&self, movement: &Movement) -> Result<Outlook, Refusal>
-        ensures answer { refusal_in result ≡ movement_judged movement.now.number movement.now.debit movement.now.credit (sum movement.now.pending movement.now.posted) (books_of self.now.balances.now) }
+        ensures answer { result_err result ≡ movement_judged movement.now.number movement.now.debit movement.now.credit (sum movement.now.pending movement.now.posted) (books_of self.now.balances.now) }
         ensures shown { IfOk result (λ o. Shows o (row_asked (books_of self.now.balances.now) movement.now.debit) (row_asked (books_of self.now.balances.now) movement.now.credit)) }
     {
         let amount = movement.pending.saturating_add(movement.posted);
@@ -40,7 +40,7 @@ impl Chain<'_> {
     // What the two accounts would show after a movement, or the first rule of the tables that stands against it.
     #[inline(always)]
     pub fn outlook(&self, movement: &Movement) -> Result<Outlook, Refusal>
-        ensures answer { refusal_in result ≡ movement_judged movement.now.number movement.now.debit movement.now.credit (sum movement.now.pending movement.now.posted) (books_of self.now.balances.now) }
+        ensures answer { result_err result ≡ movement_judged movement.now.number movement.now.debit movement.now.credit (sum movement.now.pending movement.now.posted) (books_of self.now.balances.now) }
         ensures shown { IfOk result (λ o. Shows o (option_map (debited movement.now.pending movement.now.posted) (row_asked (books_of self.now.balances.now) movement.now.debit)) (option_map (credited movement.now.pending movement.now.posted) (row_asked (books_of self.now.balances.now) movement.now.credit))) }
     {
         let mut outlook = self.parties(movement)?;
@@ -59,7 +59,7 @@ impl Chain<'_> {
         amount: u64,
     ) -> Result<(), Refusal>
         ensures goes_on { GoesOn self.old (is_ok result) self.new }
-        ensures answer { refusal_in result ≡ full_judged (noted_of self.old.balances.now) }
+        ensures answer { result_err result ≡ full_judged (noted_of self.old.balances.now) }
         ensures books { books_of self.new.balances.now ≡ (if is_ok result then transferred number debit credit amount (books_of self.old.balances.now) else books_of self.old.balances.now) }
     {
         let balances = &mut *self.balances;
@@ -71,7 +71,7 @@ impl Chain<'_> {
     // Takes a reserve, where there is room for one reservation more.
     pub fn reserve(&mut self, held: Reservation) -> Result<(), Refusal>
         ensures goes_on { GoesOn self.old (is_ok result) self.new }
-        ensures answer { refusal_in result ≡ reserve_judged (noted_of self.old.balances.now) (books_of self.old.balances.now) }
+        ensures answer { result_err result ≡ reserve_judged (noted_of self.old.balances.now) (books_of self.old.balances.now) }
         ensures books { books_of self.new.balances.now ≡ (if is_ok result then reserved held (books_of self.old.balances.now) else books_of self.old.balances.now) }
     {
         let balances = &mut *self.balances;
@@ -84,7 +84,7 @@ impl Chain<'_> {
     // Takes a post of a part of a live reservation.
     pub fn post(&mut self, number: u32, reservation: u32, amount: u64) -> Result<(), Refusal>
         ensures goes_on { GoesOn self.old (is_ok result) self.new }
-        ensures answer { refusal_in result ≡ or_else (post_judged number reservation amount (books_of self.old.balances.now)) (full_judged (noted_of self.old.balances.now)) }
+        ensures answer { result_err result ≡ option_or (post_judged number reservation amount (books_of self.old.balances.now)) (full_judged (noted_of self.old.balances.now)) }
         ensures books { books_of self.new.balances.now ≡ (if is_ok result then closed Post number (held_place (books_of self.old.balances.now) reservation) amount (books_of self.old.balances.now) else books_of self.old.balances.now) }
     {
         let balances = &mut *self.balances;
@@ -97,7 +97,7 @@ impl Chain<'_> {
     // Takes a void of a live reservation.
     pub fn void(&mut self, number: u32, reservation: u32) -> Result<(), Refusal>
         ensures goes_on { GoesOn self.old (is_ok result) self.new }
-        ensures answer { refusal_in result ≡ or_else (void_judged number reservation (books_of self.old.balances.now)) (full_judged (noted_of self.old.balances.now)) }
+        ensures answer { result_err result ≡ option_or (void_judged number reservation (books_of self.old.balances.now)) (full_judged (noted_of self.old.balances.now)) }
         ensures books { books_of self.new.balances.now ≡ (if is_ok result then closed Void number (held_place (books_of self.old.balances.now) reservation) 0 (books_of self.old.balances.now) else books_of self.old.balances.now) }
     {
         let balances = &mut *self.balances;

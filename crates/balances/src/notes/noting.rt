@@ -1,7 +1,8 @@
 // Legs are noted, and handed back to be put back.
 ghost use Rattle.std.specs.Prelude.{◌≡◌, ◌<◌, ◌++◌, [], true, length, is_ok, map, IfNone};
 ghost use Rattle.std.specs.Option.{option_to_list};
-ghost use Rattle.std.specs.Result.{result_err as refusal_in};
+ghost use Rattle.std.specs.Result.{result_err};
+ghost use Rattle.meaning.specs.Limits.{most_legs};
 ghost use Rattle.balances.specs.Judged.{full_judged};
 ghost use Rattle.balances.specs.Noted.{trace_of, no_legs, with_trace};
 
@@ -49,8 +50,8 @@ impl Notes {
 
     // Room for one leg more.
     pub(crate) fn check_legs(&self) -> Result<(), Refusal>
-        ensures answer { refusal_in result ≡ full_judged self.now }
-        ensures room { is_ok result ≡ true → length self.now.traces < 16 }
+        ensures answer { result_err result ≡ full_judged self.now }
+        ensures room { is_ok result ≡ true → length self.now.traces < most_legs }
     {
         if self.legs.is_full() {
             return Err(Refusal::ChainTooLong);

@@ -1,6 +1,6 @@
 // Which legs the tables refuse.
 ghost use Rattle.std.specs.Prelude.{◌≡◌, IfOk};
-ghost use Rattle.std.specs.Result.{result_err as refusal_in};
+ghost use Rattle.std.specs.Result.{result_err};
 ghost use Rattle.balances.specs.Shown.{shown};
 ghost use Rattle.balances.specs.Contents.{held_place, held_asked};
 ghost use Rattle.meaning.specs.Rows.{standing_of};
@@ -13,7 +13,7 @@ use meaning::{Account, Fate, Refusal, Reservation};
 
 // An amount from 1 to the top.
 pub(crate) fn check_amount(amount: u64) -> Result<(), Refusal>
-    ensures { refusal_in result ≡ amount_refused amount }
+    ensures { result_err result ≡ amount_refused amount }
 {
     if amount == 0 || amount > TOP {
         return Err(Refusal::Amount);
@@ -23,7 +23,7 @@ pub(crate) fn check_amount(amount: u64) -> Result<(), Refusal>
 
 // So much more between two accounts.
 pub(crate) fn check_pair(debit: &Account, credit: &Account, amount: u64) -> Result<(), Refusal>
-    ensures { refusal_in result ≡ pair_judged amount (standing_of debit.now) (standing_of credit.now) }
+    ensures { result_err result ≡ pair_judged amount (standing_of debit.now) (standing_of credit.now) }
 {
     if debit.number == credit.number {
         return Err(Refusal::SameAccount);
@@ -39,7 +39,7 @@ pub(crate) fn check_pair(debit: &Account, credit: &Account, amount: u64) -> Resu
 
 // Only a live reservation may be closed.
 pub(crate) fn check_fate(fate: Fate) -> Result<(), Refusal>
-    ensures { refusal_in result ≡ fate_refused fate }
+    ensures { result_err result ≡ fate_refused fate }
 {
     match fate {
         Fate::Live => Ok(()),
@@ -51,7 +51,7 @@ pub(crate) fn check_fate(fate: Fate) -> Result<(), Refusal>
 
 // A part of what is reserved.
 pub(crate) fn check_part(reserved: u64, amount: u64) -> Result<(), Refusal>
-    ensures { refusal_in result ≡ part_refused amount reserved }
+    ensures { result_err result ≡ part_refused amount reserved }
 {
     if amount == 0 || amount > reserved {
         return Err(Refusal::PostAmount);
@@ -62,7 +62,7 @@ pub(crate) fn check_part(reserved: u64, amount: u64) -> Result<(), Refusal>
 impl Tables {
     // Numbers rise.
     pub(crate) fn check_number(&self, number: u32) -> Result<(), Refusal>
-        ensures { refusal_in result ≡ number_judged number (shown self.now) }
+        ensures { result_err result ≡ number_judged number (shown self.now) }
     {
         if number == 0 || number <= self.highest {
             return Err(Refusal::OrderNumber);
@@ -72,7 +72,7 @@ impl Tables {
 
     // Room for one reservation more.
     pub(crate) fn check_room(&self) -> Result<(), Refusal>
-        ensures { refusal_in result ≡ room_judged (shown self.now) }
+        ensures { result_err result ≡ room_judged (shown self.now) }
     {
         if self.reservations.is_full() {
             return Err(Refusal::ReservationsFull);
@@ -86,7 +86,7 @@ impl Tables {
         number: u32,
         reservation: u32,
     ) -> Result<(usize, Reservation), Refusal>
-        ensures answer { refusal_in result ≡ void_judged number reservation (shown self.now) }
+        ensures answer { result_err result ≡ void_judged number reservation (shown self.now) }
         ensures place { IfOk result (λ f. f.0 ≡ held_place (shown self.now) reservation) }
         ensures found { IfOk result (λ f. held_asked (shown self.now) reservation ≡ Some f.1) }
     {
@@ -107,7 +107,7 @@ impl Tables {
         reservation: u32,
         amount: u64,
     ) -> Result<usize, Refusal>
-        ensures answer { refusal_in result ≡ post_judged number reservation amount (shown self.now) }
+        ensures answer { result_err result ≡ post_judged number reservation amount (shown self.now) }
         ensures place { IfOk result (λ slot. slot ≡ held_place (shown self.now) reservation) }
     {
         let (slot, held) = self.check_void(number, reservation)?;
