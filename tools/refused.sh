@@ -1,6 +1,7 @@
 #!/usr/bin/env bash
 # Misuses that the compiler must refuse before a program runs. Each crates/NAME/refused/*.edit is applied to a copy of
-# the repository, and the compiler must answer with the error that its 'error:' line names.
+# the repository. The compiler must answer with the error that its 'error:' line names, or, where a refusal has no name, say
+# the whole text of its 'said:' line of the function that it names there.
 set -euo pipefail
 root=$(cd "$(dirname "$0")/.." && pwd)
 work=$(mktemp -d)
@@ -31,13 +32,22 @@ if text.count(lines["old"]) != 1:
 open(path, "w").write(text.replace(lines["old"], lines["new"]))
 PY
     error=$(sed -n 's/^error: //p' "$edit")
+    said=$(sed -n 's/^said: //p' "$edit")
+    if [ -n "$error" ] && [ -z "$said" ]; then
+        wanted=$error answer="error[$error]"
+    elif [ -z "$error" ] && [[ $said == "fn "*": no proof: "* ]]; then
+        wanted=${said#*: no proof: } answer=$said
+    else
+        echo "refused: $label: it takes one line, 'error: NAME' or 'said: fn NAME: no proof: TEXT'" >&2
+        exit 1
+    fi
     (cd "$work/crates/$crate" && timeout 1800 rt check) > "$work/log" 2>&1 || true
-    if ! grep -q "error\[$error\]" "$work/log"; then
-        echo "refused: $label: NOT refused with $error" >&2
+    if ! grep -qF "$answer" "$work/log"; then
+        echo "refused: $label: NOT refused with $wanted" >&2
         tail -n 20 "$work/log" >&2
         exit 1
     fi
-    echo "refused: $label: $error, as it must be"
+    echo "refused: $label: $wanted, as it must be"
     refused=$((refused + 1))
 done
 echo "refused: $refused misuses"

@@ -1,7 +1,7 @@
 //! What is measured: scripts and the memory that they run over.
 
 use crate::engines::engine;
-use crate::workload::{empty, memory, pairs, reading, transfers};
+use crate::workload::{empty, every_call, memory, pairs, reading, transfers};
 
 /// Enough for the output of every case.
 pub const OUTPUT: usize = 1 << 22;
@@ -38,6 +38,19 @@ pub fn all() -> Vec<Case> {
     let created = case("empty", "an empty script: the book's creation", 1);
     let created = Case { script: empty(), memory: memory(2), ..created };
     transfers.into_iter().chain(pairs).chain(readings).chain([created]).collect()
+}
+
+/// What the stack is measured by: every call, on a journal of each kind, over a strip of a hundred records.
+pub fn every_kind() -> Vec<Case> {
+    let before = transfers_case(100);
+    let used = before.memory.len();
+    let mut strip = outcome("proved", &before).memory;
+    strip.extend(vec![0; 48 * 100]);
+    let of_kind = |kind: u8| {
+        let case = case("calls", "every call", kind.into());
+        Case { script: every_call(kind, used), memory: strip.clone(), ..case }
+    };
+    (0..4).map(of_kind).collect()
 }
 
 fn transfers_case(count: usize) -> Case {

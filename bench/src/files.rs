@@ -1,29 +1,35 @@
 //! Cases and results as files in a folder, for programs in other languages.
 
-use crate::cases::{all, outcome, Case};
+use crate::cases::{all, every_kind, outcome, Case};
 use std::fs;
 use std::io::Write;
 use std::path::Path;
 
 const RESULTS: &str = "results";
 
-/// Writes each case: its script, memory, output, and the memory afterwards; and a list of their names.
+/// Writes each case, and a list of the names of those that are measured by time.
 pub fn write_cases(folder: &Path) {
     fs::create_dir_all(folder).expect("a folder");
-    let write = |name: &str, kind: &str, bytes: &[u8]| {
-        fs::write(folder.join(format!("{name}.{kind}")), bytes).expect("a file");
-    };
     let mut names = String::new();
     for case in all() {
-        let expected = outcome("proved", &case);
-        write(&case.name, "script", &case.script);
-        write(&case.name, "memory", &case.memory);
-        write(&case.name, "output", &expected.output);
-        write(&case.name, "after", &expected.memory);
+        write_case(folder, &case);
         names += &format!("{}\n", case.name);
     }
+    every_kind().iter().for_each(|case| write_case(folder, case));
     fs::write(folder.join("names"), names).expect("a file");
     fs::write(folder.join(RESULTS), "").expect("a file");
+}
+
+/// Writes a case: its script, memory, output, and the memory afterwards.
+fn write_case(folder: &Path, case: &Case) {
+    let expected = outcome("proved", case);
+    let write = |kind: &str, bytes: &[u8]| {
+        fs::write(folder.join(format!("{}.{kind}", case.name)), bytes).expect("a file");
+    };
+    write("script", &case.script);
+    write("memory", &case.memory);
+    write("output", &expected.output);
+    write("after", &expected.memory);
 }
 
 /// The script and memory of a written case.

@@ -1,4 +1,4 @@
-//! Scripts to measure: all on a strip, under a floor.
+//! Scripts to measure: on a strip, under a floor, but for those of every call.
 
 const BATCH: usize = 64;
 
@@ -61,6 +61,25 @@ pub fn pairs(count: usize) -> Vec<u8> {
 /// Reading a strip of which so many bytes are in use, and no call.
 pub fn reading(used: usize) -> Vec<u8> {
     head(used)
+}
+
+/// Every call, with the longest lists, on a journal of any kind; so many bytes of the strip are in use.
+pub fn every_call(journal: u8, used: usize) -> Vec<u8> {
+    let mut script = head(used);
+    (script[1], script[2]) = (journal, 3);
+    open(&mut script, 1);
+    open(&mut script, 2);
+    batches(&mut script, BATCH, |script, place| match place % 4 {
+        0 | 1 => order(script, 1001 + place, 3, 1, 2, 5),
+        2 => order(script, 1001 + place, 4, 999 + place as u32, 0, 4),
+        _ => order(script, 1001 + place, 5, 999 + place as u32, 0, 0),
+    });
+    script.extend([3, 0, 0, 0, 0, 0, 0, 0, 9]);
+    script.extend(script::MOST_LAPSES.to_be_bytes());
+    script.push(4);
+    script.extend(script::MOST_REPORT_BYTES.to_be_bytes());
+    script.extend([5, 0, 0, 0, 1, 6, 0, 0, 3, 233, 7, 8]);
+    script
 }
 
 /// Room for so many records.

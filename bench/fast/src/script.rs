@@ -9,7 +9,8 @@ const HEAD_BYTES: usize = 14;
 const ORDER_BYTES: usize = size_of::<OrderBytes>();
 const MOST_ORDERS: u8 = 64;
 const MOST_LAPSES: u16 = 300;
-const MOST_BYTES: u16 = 8192;
+/// The longest buffer of a report.
+pub const MOST_BYTES: u16 = 12096;
 
 /// Why a script was not run, or not to its end.
 #[derive(Clone, Copy, Debug, PartialEq, Eq)]

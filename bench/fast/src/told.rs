@@ -3,7 +3,7 @@
 use crate::book::Book;
 use crate::leg::OrderBytes;
 use crate::refusal::Refusal;
-use crate::script::Call;
+use crate::script::{Call, MOST_BYTES};
 
 /// What places of lists and buffers hold before a call.
 const ANSWER_FILL: u8 = 15;
@@ -13,7 +13,7 @@ const BUFFER_FILL: u8 = 0xA5;
 const END: u8 = 255;
 
 /// The most bytes that a call is told: a report's.
-pub const MOST_TOLD: usize = 10 + 8192;
+pub const MOST_TOLD: usize = 10 + MOST_BYTES as usize;
 
 /// How many bytes a call will be told.
 #[inline]

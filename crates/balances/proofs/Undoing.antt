@@ -3,6 +3,7 @@ use Rattle.std.proofs.Common.{◌≡◌, ℕ, ◌<◌, Bool, true, false, cond, 
 use lib.Seq.{set_out}
 use Rattle.std.proofs.lemmas.List.{set-set, set_comm, set-get_or, take_all, take_at, set_at}
 use Rattle.std.proofs.lemmas.Bool.{cases_eq, lt-ltb, cond-true}
+use Rattle.meaning.specs.declared.record.Record.{Record}
 use Rattle.meaning.specs.declared.reservation.Reservation.{Reservation}
 use Rattle.meaning.specs.declared.fate.Event.{Event}
 use Rattle.meaning.specs.declared.standing.Standing.{Standing}
@@ -10,7 +11,7 @@ use Rattle.meaning.specs.Rows.{credited, credit_released}
 use Rattle.ordered.specs.declared.due.Due.{Due}
 use Rattle.balances.specs.Contents.{Books, row_place, no_row, no_reservation}
 use Rattle.balances.specs.Legs.{tracing, moved, numbered, waits, transferred, reserved, closed}
-use Rattle.balances.specs.Noted.{Trace, Noted, with_trace}
+use Rattle.balances.specs.Noted.{Trace, Noted, with_leg}
 use Rattle.balances.specs.Undone.{undone, unwound, with_queue, restored}
 use Rattle.balances.proofs.Tables.{books}
 
@@ -25,8 +26,8 @@ unwound_queue q [] k = refl
 unwound_queue q (t ∷ ts) k = ap (undone t) (unwound_queue q ts k)
 
 -- one leg more, which put back gives what was there before it
-pub leg_restored : (n : Noted) (t : Trace) (k k' : Books) → length n.traces < 16 → with_queue n.queue (undone t k') ≡ with_queue n.queue k → restored (with_trace t n) k' ≡ restored n k
-leg_restored n t k k' lt e =
+pub leg_restored : (n : Noted) (t : Trace) (f : Record) (k k' : Books) → length n.traces < 16 → with_queue n.queue (undone t k') ≡ with_queue n.queue k → restored (with_leg t f n) k' ≡ restored n k
+leg_restored n t f k k' lt e =
     let room = lt-ltb (length n.traces) 16 lt in
     ap (λ m. restored m k') (cond-true (ltb (length n.traces) 16) _ _ room)
     ∙ (ap (with_queue n.queue) (unwound_push n.traces t k')
@@ -79,9 +80,9 @@ module _ (k : Books) (q : List Due) where
       back (rows_back k.rows no_row (row_place k R.debit) (row_place k R.credit) _ (λ rs. credit_released R.amount z (get_or rs (row_place k R.credit) no_row))) (changed_back k.held no_reservation _ i)
 
 -- the same of tables that are known by what they say
-pub leg_back : (n n' : Noted) (t t' : Trace) (k k' k'' : Books) → n' ≡ with_trace t n → t ≡ t' → k'' ≡ k' → length n.traces < 16 → with_queue n.queue (undone t' k') ≡ with_queue n.queue k → restored n' k'' ≡ restored n k
-leg_back n n' t t' k k' k'' en et ek lt e =
-    ap (λ m. restored m k'') en ∙ (ap (λ s. restored (with_trace s n) k'') et ∙ (ap (restored (with_trace t' n)) ek ∙ leg_restored n t' k k' lt e))
+pub leg_back : (n n' : Noted) (t t' : Trace) (f : Record) (k k' k'' : Books) → n' ≡ with_leg t f n → t ≡ t' → k'' ≡ k' → length n.traces < 16 → with_queue n.queue (undone t' k') ≡ with_queue n.queue k → restored n' k'' ≡ restored n k
+leg_back n n' t t' f k k' k'' en et ek lt e =
+    ap (λ m. restored m k'') en ∙ (ap (λ s. restored (with_leg s f n) k'') et ∙ (ap (restored (with_leg t' f n)) ek ∙ leg_restored n t' f k k' lt e))
 
 -- the latest leg is taken from the notes and put back
 pub latest_back : (n n' : Noted) (t : Trace) (k k' : Books) → n.traces ≡ n'.traces ++ (t ∷ []) → n'.queue ≡ n.queue → k' ≡ undone t k → restored n' k' ≡ restored n k

@@ -1,10 +1,13 @@
 -- What is noted while a chain is open.
-use Rattle.std.specs.Prelude.{ℕ, cond, List, [], ◌∷◌, ◌++◌, length, nat_lt}
+use Rattle.std.specs.Prelude.{◌≡◌, ℕ, cond, List, [], ◌∷◌, ◌++◌, length, nat_lt}
+use Rattle.std.specs.List.{AllByRecursion}
+use Rattle.meaning.specs.declared.record.Record.{Record}
 use Rattle.meaning.specs.declared.reservation.Reservation.{Reservation}
 use Rattle.meaning.specs.Limits.{most_legs}
 use Rattle.meaning.specs.declared.standing.Standing.{Standing}
 use Rattle.meaning.specs.Rows.{standing_of}
 use Rattle.ordered.specs.declared.due.Due.{Due}
+use Rattle.balances.specs.declared.notes.Leg.{Leg}
 use Rattle.balances.specs.declared.notes.Undo.{Undo}
 
 -- what a leg wrote over
@@ -30,15 +33,29 @@ trace_of u = record {
   highest_was = u.highest_was;
 }
 
--- what the legs wrote over, and the queue as it was at the opening
+-- of a leg that was taken: what it wrote over, and what it writes into a journal
+abbrev pub trace_in : Leg → Trace
+trace_in l = trace_of l.undo
+
+abbrev pub record_of : Leg → Record
+record_of l = l.fields
+
+-- what the legs wrote over, what they write into a journal, and the queue as it was at the opening
 pub record Noted : Type 0 where
   pub traces : List Trace
+  pub records : List Record
   pub queue : List Due
+
+-- each of these is written at the moment T
+abbrev pub AtMoment : ℕ → List Record → Type 0
+AtMoment T es = AllByRecursion (λ (e : Record). e.moment ≡ T) es
 
 -- no legs so far
 abbrev pub no_legs : List Due → Noted
-no_legs q = record { traces = []; queue = q }
+no_legs q = record { traces = []; records = []; queue = q }
 
 -- one leg more is noted, unless there are as many as there may be
-abbrev pub with_trace : Trace → Noted → Noted
-with_trace t n = cond (nat_lt (length n.traces) most_legs) (record { traces = n.traces ++ (t ∷ []); queue = n.queue }) n
+abbrev pub with_leg : Trace → Record → Noted → Noted
+with_leg t e n =
+    let more : Noted = record { traces = n.traces ++ (t ∷ []); records = n.records ++ (e ∷ []); queue = n.queue } in
+    cond (nat_lt (length n.traces) most_legs) more n

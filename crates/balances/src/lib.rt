@@ -7,7 +7,9 @@ mod notes;
 mod numbered;
 pub mod outlook;
 mod plain;
+pub mod receipt;
 
 pub use balances::Balances;
-pub use chain::{Chain, Receipt};
+pub use chain::Chain;
 pub use outlook::{Movement, Outlook};
+pub use receipt::Receipt;

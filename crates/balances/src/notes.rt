@@ -1,6 +1,6 @@
 // What an open chain notes: what its legs wrote over, and the queue as it was.
 use meaning::limits::{LEGS, RESERVATIONS};
-use meaning::{Account, Reservation};
+use meaning::{Account, Record, Reservation};
 use ordered::{Due, Row};
 use std::marker::Model;
 
@@ -19,18 +19,25 @@ pub struct Undo {
     pub(crate) highest_was: u32,
 }
 
+// A leg that was taken: what it wrote over, and the record that it writes into a journal.
+#[derive(Clone, Copy)]
+pub struct Leg {
+    pub(crate) undo: Undo,
+    pub(crate) fields: Record,
+}
+
 #[derive(Drop)]
 pub struct Notes {
     queue: Row<Due, RESERVATIONS>,
-    legs: Row<Undo, LEGS>,
+    legs: Row<Leg, LEGS>,
 }
 
 // Clauses see what is noted.
 impl Model for Notes {
     ghost use Rattle.std.specs.Prelude.{map};
-    ghost use Rattle.balances.specs.Noted.{Noted, trace_of};
+    ghost use Rattle.balances.specs.Noted.{Noted, trace_in, record_of};
 
     ghost Value = { Noted };
 
-    ghost view = { λ n. record { traces = map trace_of n.legs; queue = n.queue } };
+    ghost view = { λ n. record { traces = map trace_in n.legs; records = map record_of n.legs; queue = n.queue } };
 }

@@ -14,7 +14,7 @@ use Rattle.book.specs.Called.{Created}
 use Rattle.book.specs.States.{policy_of, state_of}
 use Rattle.promise.specs.declared.call.Call.{Call}
 use Rattle.promise.specs.declared.desk.Desk.{Desk}
-use Rattle.promise.specs.Histories.{beginning}
+use Rattle.promise.specs.Takeovers.{beginning}
 use Rattle.promise.specs.Made.{CallsAll, with_desk}
 use Rattle.promise.specs.Worlds.{World, adds_all}
 use Rattle.promise.proofs.Living.{same-final, same-adds}

@@ -1,3 +1,4 @@
+pub mod Eighths
 pub mod Rounds
 pub mod Seasons
 pub mod Handed

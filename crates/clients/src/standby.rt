@@ -1,10 +1,9 @@
 // A standby book takes over from another, over another kind of journal. Nothing is assumed of past and further calls.
 ghost use Rattle.std.specs.Prelude.{◌≡◌};
-ghost use Rattle.steps.specs.Written.{entries_of};
 ghost use Rattle.promise.specs.Made.{Same};
-ghost use Rattle.promise.specs.Worlds.{adds_all};
+ghost use Rattle.promise.specs.Pairs.{pair};
 ghost use Rattle.clients.specs.Handed.{HandedOver};
-ghost use Rattle.clients.specs.Seasons.{season, before_all, season_was};
+ghost use Rattle.clients.specs.Seasons.{season, season_was, season_wrote};
 
 use book::Book;
 use journal::{Journal, Mirror, Roll};
@@ -33,7 +32,7 @@ fn season() -> Season
 
 // Makes a past on a book of its own, from nothing on; the two rolls that it wrote.
 fn written(past: &[Call], orders: &[Order]) -> Mirror<Roll, Roll>
-    ensures entries { ⟦<Mirror<Roll, Roll> as Journal>⟧.entries result ≡ entries_of (adds_all season orders.now before_all past.now) }
+    ensures entries { ⟦<Mirror<Roll, Roll> as Journal>⟧.entries result ≡ season_wrote orders.now past.now }
     ensures spare { ⟦<Mirror<Roll, Roll> as Journal>⟧.spare result ≡ (season_was orders.now past.now).spare }
 {
     let mut told = [Told::Nothing; 16];
@@ -48,8 +47,8 @@ fn written(past: &[Call], orders: &[Order]) -> Mirror<Roll, Roll>
 }
 
 // Makes the past on a first book, over one roll. A second book takes over from what the past has written into two, and
-// every further call is made on both. Where the desks are alike, so is all that follows. The last of the result is what
-// the second book's move to the first one's moment answers.
+// every further call is made on both. Where the desks are alike, both agree after every call. The last of the result is
+// what the second book's move to the first one's moment answers.
 pub fn hand_over(
     past: &[Call],
     further: &[Call],
@@ -62,7 +61,8 @@ pub fn hand_over(
     Result<Moved, Refusal>,
 )
     ensures same { Same mine.old mine.new × Same theirs.old theirs.new }
-    ensures handed { HandedOver ⟦<Roll as Journal>⟧ ⟦<Season as Policy>⟧ ⟦<Mirror<Roll, Roll> as Journal>⟧ ⟦<Season as Policy>⟧ orders.now past.now further.now mine.old theirs.old mine.new theirs.new result.0 result.1 result.2 }
+    ensures handed { HandedOver orders.now past.now further.now mine.old theirs.old
+        (pair result.0 mine.new result.1 theirs.new) result.2 }
 {
     let mut told = [Told::Nothing; 16];
     let mut answers = [Ok(()); 64];

@@ -1,5 +1,6 @@
 -- A lawful policy admits every account of a journal that reads, at its last moment and later.
 use Rattle.std.proofs.Common.{◌≡◌, ℕ, ◌+◌, ◌-◌, ◌≤◌, Bool, true, false, cond, eqb, List, [], ◌∷◌, Some, None, sym, refl, ap, ◌∙◌, subst, arith}
+use Rattle.std.proofs.ByRecursion.{All-weaker}
 use Rattle.meaning.specs.declared.content.Content.{Content}
 use Rattle.meaning.specs.declared.content.Content.TheVariants.{Account, Transfer, Reserve, Post, Void}
 use Rattle.meaning.specs.declared.opening.Opening.{Opening}
@@ -9,11 +10,16 @@ use Rattle.meaning.specs.Rules.{Policy, refused}
 use Rattle.laws.specs.Steps.{Reads, falling}
 use Rattle.meaning.specs.Policies.{Lawful}
 use Rattle.laws.specs.Kept.{Holds, Admitted}
-use Rattle.laws.proofs.Finds.{find_key, find_by}
+use Rattle.laws.proofs.Finds.{find_key, find_by, finds_each}
 use Rattle.laws.proofs.Passes.{Moves, movement_passes, reserve_passes, opening_passes, reads_prefix, reads_rules, reads_moment}
 use Rattle.laws.proofs.Numbered.{entry, Numbered, numbered}
 use Rattle.laws.proofs.Known.{akey, Known, known, through_none}
 use Rattle.laws.proofs.Totals.{step, lapse}
+
+-- the account that is found under a number, as it stands at T
+abbrev Found : Policy → Journal → ℕ → Type 0
+Found policy J T =
+    (a : ℕ) (A : Opening) → the_account J a ≡ Some A → Holds policy A (pending J T debits a) (posted J debits a) (pending J T credits a) (posted J credits a)
 
 module _ (policy : Policy) (law : Lawful policy) where
   debit_law : (k m dp dq cp cq x y : ℕ) → policy k m (dp + x) dq cp cq ≡ true → y ≤ x → policy k m dp (dq + y) cp cq ≡ true
@@ -33,7 +39,7 @@ module _ (policy : Policy) (law : Lawful policy) where
   holds_same : {A : Opening} {dp dq cp cq dp' dq' cp' cq' : ℕ} → Holds policy A dp dq cp cq → dp ≡ dp' → dq ≡ dq' → cp ≡ cp' → cq ≡ cq' → Holds policy A dp' dq' cp' cq'
   holds_same H e1 e2 e3 e4 = let m = H.admits in record { admits = cc; debits_fit = omega (arith, H.debits_fit); credits_fit = omega (arith, H.credits_fit) }
 
-  admitted_later : (J : Journal) (T T' : ℕ) → T ≤ T' → Admitted policy J T → Admitted policy J T'
+  admitted_later : (J : Journal) (T T' : ℕ) → T ≤ T' → Found policy J T → Found policy J T'
   admitted_later J T T' le H a A is =
       holds_less (falling J T T' debits a) 0 (falling J T T' credits a) 0 (H a A is) (lapse J T T' le debits a) (omega arith) (omega arith) (lapse J T T' le credits a) (omega arith) (omega arith)
 
@@ -76,8 +82,8 @@ module _ (policy : Policy) (law : Lawful policy) where
             let m = H.admits in
             record { admits = cc; debits_fit = omega (arith, H.debits_fit); credits_fit = omega (arith, H.credits_fit) }
 
-  module _ (J : Journal) (n : ℕ) (l : Bool) (t : ℕ) (N : Numbered J) (K : Known J) (H : Admitted policy J t) where
-    admitted_more : (k : Content) → refused policy J t n k ≡ None → Admitted policy (entry n l t k ∷ J) t
+  module _ (J : Journal) (n : ℕ) (l : Bool) (t : ℕ) (N : Numbered J) (K : Known J) (H : Found policy J t) where
+    admitted_more : (k : Content) → refused policy J t n k ≡ None → Found policy (entry n l t k ∷ J) t
     admitted_more (Account x y z w) e a A is = go (eqb n a) refl is
       where
         B : Opening
@@ -120,8 +126,12 @@ module _ (policy : Policy) (law : Lawful policy) where
         let c = st.2 credits a in
         holds_less (at (eqb R.debit a) R.amount) 0 (at (eqb R.credit a) R.amount) 0 (H a A is) d.0 (omega arith) (omega arith) c.0 (omega arith) (omega arith)
 
-  pub admitted : (J : Journal) → Reads policy J → (T : ℕ) → latest J ≤ T → Admitted policy J T
-  admitted [] h T le = λ a A e. absurd (grind arith)
-  admitted (e ∷ J) h T le =
+  found_admitted : (J : Journal) → Reads policy J → (T : ℕ) → latest J ≤ T → Found policy J T
+  found_admitted [] h T le = λ a A e. absurd (grind arith)
+  found_admitted (e ∷ J) h T le =
       let before = reads_prefix policy e J h in
-      admitted_later (e ∷ J) e.moment T le (admitted_more J e.number e.linked e.moment (numbered policy J before) (known policy J before) (admitted J before e.moment (reads_moment policy e J h)) e.content (reads_rules policy e J h))
+      admitted_later (e ∷ J) e.moment T le (admitted_more J e.number e.linked e.moment (numbered policy J before) (known policy J before) (found_admitted J before e.moment (reads_moment policy e J h)) e.content (reads_rules policy e J h))
+
+  -- each account is found under its number
+  pub admitted : (J : Journal) → Reads policy J → (T : ℕ) → latest J ≤ T → Admitted policy J T
+  admitted J h T le = All-weaker (λ A. the_account J A.number ≡ Some A) _ (λ A. found_admitted J h T le A.number A) (accounts J) (finds_each akey (accounts J) (known policy J h).apart)

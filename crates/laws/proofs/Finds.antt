@@ -1,6 +1,8 @@
 -- Sums over lists, and lists whose elements have keys.
 use Rattle.std.proofs.Common.{◌≡◌, ℕ, ◌+◌, Bool, true, false, cond, eqb, List, [], ◌∷◌, Some, None, Option, sym, refl, ap, ◌∙◌, subst, arith}
-use Rattle.std.specs.List.{AllByRecursion as All, find}
+use Rattle.std.specs.List.{AllByRecursion as All, IsDistinct, find}
+use Rattle.std.proofs.ByRecursion.{All-weaker}
+use Rattle.std.proofs.lemmas.Bool.{ne_eqb}
 use Rattle.meaning.specs.Basics.{sum_of}
 
 module _ {X : Type 0} where
@@ -19,6 +21,21 @@ module _ {X : Type 0} where
   abbrev pub Distinct : (X → ℕ) → List X → Type 0
   Distinct k [] = Unit {0}
   Distinct k (x ∷ xs) = All (λ y. k y ≡ k x → ⊥) xs × Distinct k xs
+
+  -- where keys differ, each is found under its own
+  pub finds_each : (k : X → ℕ) (xs : List X) → Distinct k xs → All (λ x. find_by k (k x) xs ≡ Some x) xs
+  finds_each k [] h = tt
+  finds_each k (x ∷ xs) h = (grind arith, later xs h.0 (finds_each k xs h.1))
+    where
+      later : (ys : List X) → All (λ y. k y ≡ k x → ⊥) ys → All (λ y. find_by k (k y) xs ≡ Some y) ys → All (λ y. find_by k (k y) (x ∷ xs) ≡ Some y) ys
+      later [] a f = tt
+      later (y ∷ ys) a f = let ne : k x ≡ k y → ⊥ = λ e. a.0 (sym e) in let g = f.0 in (grind arith, later ys a.1 f.1)
+
+  -- as the library says it
+  pub differ : (k : X → ℕ) (xs : List X) → Distinct k xs → IsDistinct (λ x y. eqb (k x) (k y)) xs
+  unfolding IsDistinct
+  differ k [] h = tt
+  differ k (x ∷ xs) h = (All-weaker (λ y. k y ≡ k x → ⊥) (λ y. eqb (k x) (k y) ≡ false) (λ y ne. ne_eqb (k x) (k y) (λ e. ne (sym e))) xs h.0, differ k xs h.1)
 
   module _ (k : X → ℕ) (n : ℕ) where
     pub find_key : (xs : List X) (x : X) → find_by k n xs ≡ Some x → k x ≡ n

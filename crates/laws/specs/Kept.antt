@@ -1,12 +1,13 @@
 -- What every journal that can be read keeps, under every lawful policy.
 use Rattle.std.specs.Prelude.{◌≡◌, ℕ, ◌+◌, ◌<◌, ◌≤◌, Bool, true, false, [], ◌∷◌, Some, ◌==◌}
+use Rattle.std.specs.List.{AllByRecursion, IsDistinct}
 use Rattle.meaning.specs.declared.content.Content.{Content}
 use Rattle.meaning.specs.declared.content.Content.TheVariants.{Account, Transfer, Reserve, Post, Void}
 use Rattle.meaning.specs.declared.record.Record.{Record}
 use Rattle.meaning.specs.declared.opening.Opening.{Opening}
 use Rattle.meaning.specs.Basics.{at, sum_of}
 use Rattle.meaning.specs.Sound.{top}
-use Rattle.meaning.specs.Given.{Journal, Reserved, reservations, the_account, the_reservation, debits, credits, pending, posted, of_ledger}
+use Rattle.meaning.specs.Given.{Journal, Reserved, accounts, reservations, the_reservation, debits, credits, pending, posted, of_ledger}
 use Rattle.meaning.specs.Rules.{Policy}
 
 -- Each reservation is closed at most once, in time, and for no more than was reserved.
@@ -50,6 +51,12 @@ pub record Once (J : Journal) : Type 0 where
   pub one_close : (r : ℕ) → closers J r ≤ 1
   pub well : Each (λ K e. ClosesWell K e.moment e.content) J
 
+-- No two accounts have the same number, and no two reservations.
+
+pub record Apart (J : Journal) : Type 0 where
+  pub accounts_differ : IsDistinct (λ (A B : Opening). A.number == B.number) (accounts J)
+  pub reservations_differ : IsDistinct (λ (R S : Reserved). R.number == S.number) (reservations J)
+
 -- In each ledger debits equal credits.
 
 pub record Balanced (J : Journal) (T : ℕ) : Type 0 where
@@ -63,6 +70,10 @@ pub record Holds (policy : Policy) (A : Opening) (dp dq cp cq : ℕ) : Type 0 wh
   pub debits_fit : dp + dq ≤ top
   pub credits_fit : cp + cq ≤ top
 
+-- every account of J, as it stands at T
 abbrev pub Admitted : Policy → Journal → ℕ → Type 0
-Admitted policy J T =
-    (a : ℕ) (A : Opening) → the_account J a ≡ Some A → Holds policy A (pending J T debits a) (posted J debits a) (pending J T credits a) (posted J credits a)
+Admitted policy J T = AllByRecursion
+    (λ (A : Opening). Holds policy A
+    (pending J T debits A.number) (posted J debits A.number)
+    (pending J T credits A.number) (posted J credits A.number))
+    (accounts J)

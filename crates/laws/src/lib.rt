@@ -1,6 +1,10 @@
 // What the definitions keep, as theorems: each clause of the contract is one law.
 #![tactic(auto)]
 
+pub mod chains;
+pub mod labels;
+pub mod listings;
+
 ghost use Rattle.std.specs.Prelude.{ℕ, List};
 ghost use Rattle.meaning.specs.declared.order.Order.{Order};
 ghost use Rattle.meaning.specs.Given.{Journal};

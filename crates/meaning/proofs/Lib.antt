@@ -1,3 +1,4 @@
 pub mod Lettered
 pub mod Only
 pub mod Kindless
+pub mod Agreeing

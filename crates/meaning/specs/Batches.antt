@@ -4,7 +4,7 @@ use Rattle.std.specs.Option.{option_map}
 use Rattle.meaning.specs.declared.order.Order.{Order}
 use Rattle.meaning.specs.declared.record.Record.{Record}
 use Rattle.meaning.specs.declared.refusal.Refusal.{Refusal}
-use Rattle.meaning.specs.declared.refusal.Refusal.TheVariants.{ChainRefused, ChainUnfinished, ChainTooLong, ChainOverSpare, AnswersTooShort}
+use Rattle.meaning.specs.Numbers.{refusal}
 use Rattle.meaning.specs.declared.answers.Stop.{Stop}
 use Rattle.meaning.specs.Given.{Journal}
 use Rattle.meaning.specs.Basics.{sum_of, first_of}
@@ -53,7 +53,7 @@ all_are a os = record { answers = replicate (length os) a; entries = [] }
 
 -- one order its own answer, the others that their chain was refused
 abbrev pub but_one : ℕ → Refusal → List Order → Outcome
-but_one i r os = record { answers = slice_set (replicate (length os) (Err ChainRefused)) i (Err r); entries = [] }
+but_one i r os = record { answers = slice_set (replicate (length os) (Err (refusal 11))) i (Err r); entries = [] }
 
 abbrev pub by_legs : ℕ → List Order → Option Stop → Outcome
 by_legs T os None = record { answers = replicate (length os) (Ok tt); entries = map (leg_writes T) os }
@@ -61,9 +61,9 @@ by_legs T os (Some s) = but_one s.place s.refusal os
 
 abbrev pub chain : Policy → Journal → (T spare : ℕ) → List Order → Outcome
 chain policy J T spare os =
-    cond (unfinished os) (but_one (length os - 1) ChainUnfinished os)
-    (cond (nat_lt most_legs (length os)) (all_are (Err ChainTooLong) os)
-    (cond (nat_lt spare (length os)) (all_are (Err ChainOverSpare) os)
+    cond (unfinished os) (but_one (length os - 1) (refusal 12) os)
+    (cond (nat_lt most_legs (length os)) (all_are (Err (refusal 13)) os)
+    (cond (nat_lt spare (length os)) (all_are (Err (refusal 14)) os)
     (by_legs T os (first_refused policy J T os))))
 
 -- J after these entries
@@ -93,4 +93,4 @@ taken x = sum_of is_taken x.answers
 
 -- why a batch with so many places for answers is refused as a whole, if it is
 abbrev pub batch_refused : List Order → ℕ → Option Refusal
-batch_refused os places = first_of ((nat_lt places (length os), AnswersTooShort) ∷ [])
+batch_refused os places = first_of ((nat_lt places (length os), refusal 15) ∷ [])

@@ -4,7 +4,7 @@ use Rattle.std.specs.List.{filter}
 use Rattle.std.specs.Int.{w64, to_be_bytes}
 use Rattle.meaning.specs.declared.opening.Opening.{Opening}
 use Rattle.meaning.specs.declared.refusal.Refusal.{Refusal}
-use Rattle.meaning.specs.declared.refusal.Refusal.TheVariants.{BufferTooShort}
+use Rattle.meaning.specs.Numbers.{refusal}
 use Rattle.meaning.specs.declared.standing.Standing.{Standing}
 use Rattle.meaning.specs.Basics.{in_order, first_of}
 use Rattle.meaning.specs.Given.{Journal, accounts, debits, credits, pending, posted, of_ledger}
@@ -51,4 +51,4 @@ listing J T = lines J T (in_order earlier (accounts J))
 
 -- why a report into so many bytes is refused, if it is
 abbrev pub report_refused : Journal → (T bytes : ℕ) → Option Refusal
-report_refused J T bytes = first_of ((nat_lt bytes (length (listing J T)), BufferTooShort) ∷ [])
+report_refused J T bytes = first_of ((nat_lt bytes (length (listing J T)), refusal 56) ∷ [])

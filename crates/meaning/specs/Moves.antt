@@ -2,7 +2,7 @@
 use Rattle.std.specs.Prelude.{ℕ, Bool, ◌&&◌, ◌||◌, List, [], ◌∷◌, map, length, Option, ◌==◌, nat_le, nat_lt}
 use Rattle.std.specs.List.{filter}
 use Rattle.meaning.specs.declared.refusal.Refusal.{Refusal}
-use Rattle.meaning.specs.declared.refusal.Refusal.TheVariants.{MomentTooLate, MomentEarlier, LapsesTooShort}
+use Rattle.meaning.specs.Numbers.{refusal}
 use Rattle.meaning.specs.Basics.{in_order, first_of}
 use Rattle.meaning.specs.Given.{Journal, Reserved, reservations, fate, is_live}
 use Rattle.meaning.specs.Sound.{last}
@@ -34,9 +34,9 @@ next_deadline J t = first_deadline (awaiting J t)
 -- why a move from T to t is refused, if it is, with so many places for so many that fall due
 abbrev pub refused_with : (T t places falling : ℕ) → Option Refusal
 refused_with T t places falling = first_of
-    ((nat_lt last t, MomentTooLate)
-    ∷ (nat_lt t T, MomentEarlier)
-    ∷ (nat_lt places falling, LapsesTooShort)
+    ((nat_lt last t, refusal 51)
+    ∷ (nat_lt t T, refusal 52)
+    ∷ (nat_lt places falling, refusal 53)
     ∷ [])
 
 abbrev pub move_refused : Journal → (T t places : ℕ) → Option Refusal

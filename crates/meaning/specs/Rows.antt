@@ -10,7 +10,7 @@ use Rattle.meaning.specs.Fates.{next}
 use Rattle.meaning.specs.declared.standing.Standing.{Standing}
 
 abbrev pub opening_of : Account → Opening
-opening_of a = record { number = a.number; ledger = a.ledger; class = a.class; limit = a.limit; label = a.label.code }
+opening_of a = record { number = a.number; ledger = a.ledger; class = a.class; limit = a.limit.litres; label = a.label.code }
 
 abbrev pub standing_of : Account → Standing
 standing_of a = record {

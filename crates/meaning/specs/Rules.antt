@@ -11,7 +11,7 @@ use Rattle.meaning.specs.declared.opening.Opening.{Opening}
 use Rattle.meaning.specs.declared.fate.Fate.{Fate}
 use Rattle.meaning.specs.declared.fate.Fate.TheVariants.{Live, Posted, Voided, Lapsed}
 use Rattle.meaning.specs.declared.refusal.Refusal.{Refusal}
-use Rattle.meaning.specs.declared.refusal.Refusal.TheVariants.{OrderNumber, Amount, DebitUnknown, CreditUnknown, SameAccount, LedgersDiffer, TopPassed, DebitNotAdmitted, CreditNotAdmitted, ReservationsFull, ReservationUnknown, AlreadyPosted, AlreadyVoided, AlreadyLapsed, PostAmount, AccountNumber, Ledger, Limit, LabelMalformed, AccountsFull, JournalFull, AccountNotAdmitted}
+use Rattle.meaning.specs.Numbers.{refusal}
 use Rattle.meaning.specs.Labels.{is_label}
 use Rattle.meaning.specs.Limits.{most_accounts, most_reservations}
 use Rattle.meaning.specs.Sound.{top, fits}
@@ -34,21 +34,21 @@ admits_standing policy s = policy s.account.class s.account.limit s.debits_pendi
 -- a number that is free, and a ledger
 abbrev pub place_checks : Journal → (number ledger : ℕ) → List (Bool × Refusal)
 place_checks J n l =
-    ((n == 0 || is_some (the_account J n), AccountNumber)
-    ∷ ((l == 0), Ledger)
+    ((n == 0 || is_some (the_account J n), refusal 41)
+    ∷ ((l == 0), refusal 42)
     ∷ [])
 
 -- the policy's word on an account with four zeros
 abbrev pub zeros_checks : Policy → (class limit : ℕ) → List (Bool × Refusal)
-zeros_checks policy k m = (not (policy k m 0 0 0 0), AccountNotAdmitted) ∷ []
+zeros_checks policy k m = (not (policy k m 0 0 0 0), refusal 47) ∷ []
 
 abbrev pub opening_checks : Policy → Journal → (full : Bool) → Opening → List (Bool × Refusal)
 opening_checks policy J full A =
     place_checks J A.number A.ledger
-    ++ ((nat_lt top A.limit, Limit)
-    ∷ (not (is_label A.label), LabelMalformed)
-    ∷ (nat_le most_accounts (length (accounts J)), AccountsFull)
-    ∷ (full, JournalFull)
+    ++ ((nat_lt top A.limit, refusal 43)
+    ∷ (not (is_label A.label), refusal 44)
+    ∷ (nat_le most_accounts (length (accounts J)), refusal 45)
+    ∷ (full, refusal 46)
     ∷ zeros_checks policy A.class A.limit)
 
 abbrev pub opening_refused : Policy → Journal → (full : Bool) → Opening → Option Refusal
@@ -58,29 +58,29 @@ opening_refused policy J full A = first_of (opening_checks policy J full A)
 
 -- h is the highest number taken
 abbrev pub number_refused : (h n : ℕ) → Option Refusal
-number_refused h n = first_of ((n == 0 || nat_le n h, OrderNumber) ∷ [])
+number_refused h n = first_of ((n == 0 || nat_le n h, refusal 21) ∷ [])
 
 abbrev pub amount_refused : ℕ → Option Refusal
-amount_refused z = first_of ((z == 0 || nat_lt top z, Amount) ∷ [])
+amount_refused z = first_of ((z == 0 || nat_lt top z, refusal 22) ∷ [])
 
 -- of so many reservations
 abbrev pub room_refused : ℕ → Option Refusal
-room_refused n = first_of ((nat_le most_reservations n, ReservationsFull) ∷ [])
+room_refused n = first_of ((nat_le most_reservations n, refusal 30) ∷ [])
 
 abbrev pub fate_refused : Fate → Option Refusal
 fate_refused Live = None
-fate_refused Posted = Some AlreadyPosted
-fate_refused Voided = Some AlreadyVoided
-fate_refused Lapsed = Some AlreadyLapsed
+fate_refused Posted = Some (refusal 32)
+fate_refused Voided = Some (refusal 33)
+fate_refused Lapsed = Some (refusal 34)
 
 -- a post of z where a is reserved
 abbrev pub part_refused : (z a : ℕ) → Option Refusal
-part_refused z a = first_of ((z == 0 || nat_lt a z, PostAmount) ∷ [])
+part_refused z a = first_of ((z == 0 || nat_lt a z, refusal 35) ∷ [])
 
 -- Rules of a leg on a reservation that is known or not, as it stands: a void, and a post of z.
 
 abbrev pub void_refused : Option Reservation → Option Refusal
-void_refused None = Some ReservationUnknown
+void_refused None = Some (refusal 31)
 void_refused (Some R) = fate_refused R.fate
 
 abbrev pub post_refused : ℕ → Option Reservation → Option Refusal
@@ -91,17 +91,17 @@ post_refused z o = option_or (void_refused o) (option_and_then (λ (R : Reservat
 -- z more between them, as they stand
 abbrev pub pair_checks : ℕ → (D C : Standing) → List (Bool × Refusal)
 pair_checks z D C =
-    (((D.account.number == C.account.number), SameAccount)
-    ∷ (not (D.account.ledger == C.account.ledger), LedgersDiffer)
-    ∷ (not (fits D.debits_pending D.debits_posted z), TopPassed)
-    ∷ (not (fits C.credits_pending C.credits_posted z), TopPassed)
+    (((D.account.number == C.account.number), refusal 25)
+    ∷ (not (D.account.ledger == C.account.ledger), refusal 26)
+    ∷ (not (fits D.debits_pending D.debits_posted z), refusal 27)
+    ∷ (not (fits C.credits_pending C.credits_posted z), refusal 27)
     ∷ [])
 
 -- the policy's word on both, as they would stand
 abbrev pub policy_checks : Policy → (D C : Standing) → List (Bool × Refusal)
 policy_checks policy D C =
-    ((not (admits_standing policy D), DebitNotAdmitted)
-    ∷ (not (admits_standing policy C), CreditNotAdmitted)
+    ((not (admits_standing policy D), refusal 28)
+    ∷ (not (admits_standing policy C), refusal 29)
     ∷ [])
 
 -- p more pending and q more posted from D to C
@@ -112,8 +112,8 @@ between_checks policy p q D C =
 
 -- what is checked of two accounts where both are known
 abbrev pub parties_refused : ((D C : Standing) → List (Bool × Refusal)) → Option Standing → Option Standing → Option Refusal
-parties_refused checks None C = Some DebitUnknown
-parties_refused checks (Some D) None = Some CreditUnknown
+parties_refused checks None C = Some (refusal 23)
+parties_refused checks (Some D) None = Some (refusal 24)
 parties_refused checks (Some D) (Some C) = first_of (checks D C)
 
 module _ (policy : Policy) (J : Journal) (T : ℕ) where

@@ -4,6 +4,7 @@ ghost use Rattle.std.specs.Prelude.{◌≡◌};
 ghost use Rattle.meaning.specs.Rows.{standing_of, debited, credited, debit_released, credit_released};
 
 use crate::label::Label;
+use crate::limit::Limit;
 use crate::totals::Totals;
 
 #[derive(Clone, Copy)]
@@ -11,7 +12,7 @@ pub struct Account {
     pub number: u32,
     pub ledger: u16,
     pub class: u8,
-    pub limit: u64,
+    pub limit: Limit,
     pub label: Label,
     pub totals: Totals,
 }

@@ -23,7 +23,7 @@ impl From<Account> for Standing {
                 number: account.number,
                 ledger: account.ledger,
                 class: account.class,
-                limit: account.limit,
+                limit: account.limit.litres,
                 label: account.label.code,
             },
             debits_pending: account.totals.debits.pending,

@@ -1,16 +1,16 @@
-// The four policies. Sums are taken at 128 bits, so none overflows.
+// The four policies. Each side's sum and each limit is at most the top, so no sum of two overflows.
 ghost use Rattle.std.specs.Prelude.{◌≡◌, ◌+◌, nat_le};
 ghost use Rattle.meaning.specs.Policies.{open_to_all, floor, ceiling, by_class};
 ghost use Rattle.std.proofs.Common.{rules};
 
 use crate::policy::Policy;
-use meaning::{Side, Totals};
+use meaning::{Limit, Side, Totals};
 
 // Whether all of one side stays within what is posted on the other and a limit.
-fn covers(drawn: &Side, posted: u64, limit: u64) -> bool
-    ensures { result ≡ nat_le (drawn.now.pending + drawn.now.posted) (posted + limit) }
+fn covers(drawn: &Side, other: &Side, limit: Limit) -> bool
+    ensures { result ≡ nat_le (drawn.now.pending + drawn.now.posted) (other.now.posted + limit.litres) }
 {
-    u128::from(drawn.pending) + u128::from(drawn.posted) <= u128::from(posted) + u128::from(limit)
+    drawn.pending + drawn.posted <= other.posted + limit.litres
 }
 
 // Admits everything.
@@ -22,7 +22,7 @@ impl Policy for Open {
 
     ghost lawful = { Prim.search rules };
 
-    fn admits(&self, _class: u8, _limit: u64, _totals: &Totals) -> bool {
+    fn admits(&self, _class: u8, _limit: Limit, _totals: &Totals) -> bool {
         true
     }
 }
@@ -36,8 +36,8 @@ impl Policy for Floor {
 
     ghost lawful = { Prim.search rules };
 
-    fn admits(&self, _class: u8, limit: u64, totals: &Totals) -> bool {
-        covers(&totals.debits, totals.credits.posted, limit)
+    fn admits(&self, _class: u8, limit: Limit, totals: &Totals) -> bool {
+        covers(&totals.debits, &totals.credits, limit)
     }
 }
 
@@ -50,8 +50,8 @@ impl Policy for Ceiling {
 
     ghost lawful = { Prim.search rules };
 
-    fn admits(&self, _class: u8, limit: u64, totals: &Totals) -> bool {
-        covers(&totals.credits, totals.debits.posted, limit)
+    fn admits(&self, _class: u8, limit: Limit, totals: &Totals) -> bool {
+        covers(&totals.credits, &totals.debits, limit)
     }
 }
 
@@ -68,7 +68,7 @@ impl<P: Policy, Q: Policy> Policy for ByClass<P, Q> {
 
     ghost lawful = { Prim.search rules };
 
-    fn admits(&self, class: u8, limit: u64, totals: &Totals) -> bool {
+    fn admits(&self, class: u8, limit: Limit, totals: &Totals) -> bool {
         if class < self.class {
             self.below.admits(class, limit, totals)
         } else {

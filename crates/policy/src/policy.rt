@@ -2,15 +2,15 @@
 ghost use Rattle.std.specs.Prelude.{◌≡◌, Bool, ℕ};
 ghost use Rattle.meaning.specs.Policies.{Lawful};
 
-use meaning::Totals;
+use meaning::{Limit, Totals};
 
 pub trait Policy {
     // What it admits: a class, a limit, and the totals DP, DQ, CP, CQ.
     ghost admits: { Self → (class limit dp dq cp cq : ℕ) → Bool };
 
-    fn admits(&self, class: u8, limit: u64, totals: &Totals) -> bool
-        ensures { result ≡ admits self.now class limit totals.now.debits.pending totals.now.debits.posted totals.now.credits.pending totals.now.credits.posted };
+    fn admits(&self, class: u8, limit: Limit, totals: &Totals) -> bool
+        ensures { result ≡ admits self.now class limit.litres totals.now.debits.pending totals.now.debits.posted totals.now.credits.pending totals.now.credits.posted };
 
-    // What is pending may go, and as much of it or less be posted.
+    // It admits nothing but what an account can have; there, what is pending may go, and as much of it or less be posted.
     ghost lawful: { (policy : Self) → Lawful (admits policy) };
 }

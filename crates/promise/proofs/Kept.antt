@@ -1,10 +1,13 @@
 -- A book that was read through keeps all that a book keeps.
-use Rattle.std.proofs.Common.{◌≡◌, sym, ap, Ok}
+use Rattle.std.proofs.Common.{◌≡◌, None, sym, ap, Ok}
+use Rattle.meaning.specs.Calls.{unless}
 use Rattle.meaning.specs.Policies.{Lawful}
+use Rattle.meaning.specs.Questions.{account_asked, reservation_asked}
 use Rattle.meaning.specs.Reading.{stopped_refused}
 use Rattle.journal.specs.declared.journal.Journal as journal
 use Rattle.policy.specs.declared.policy.Policy as policy
 use Rattle.balances.specs.Books.{Books}
+use Rattle.laws.proofs.Apart.{apart}
 use Rattle.laws.proofs.Once.{once}
 use Rattle.laws.proofs.Balanced.{balanced}
 use Rattle.laws.proofs.Admitted.{admitted}
@@ -21,8 +24,11 @@ module _ {J P : Type 0} (j : journal.Ghosts J) (p : policy.Ghosts P) (b : Book J
       let K = journal_of j b.journal in
       let h = reads j p b R in
       record {
+        account_answers = λ n. ap (λ v. unless (stopped_refused v) (account_asked K b.moment n) None) R.through;
+        reservation_answers = λ n. ap (λ v. unless (stopped_refused v) (reservation_asked K b.moment n) None) R.through;
         accounts_are = ap (λ (x : Books). x.rows) R.runs.tables;
         reservations_are = ap (λ (x : Books). x.held) R.runs.tables;
+        apart = apart (policy_of j p b) K h;
         balanced = balanced (policy_of j p b) K h b.moment;
         once = once (policy_of j p b) K h;
         admitted = admitted (policy_of j p b) law K h b.moment R.runs.in_time;

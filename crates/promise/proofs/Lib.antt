@@ -1,5 +1,6 @@
 pub mod Making
 pub mod Turns
+pub mod Abreast
 pub mod Kept
 pub mod Few
 pub mod Living

@@ -1,5 +1,5 @@
 -- One call more of a list of calls.
-use Rattle.std.proofs.Common.{◌≡◌, ℕ, ◌+◌, ◌<◌, List, ◌++◌, length, get_or, drop, sym, ap, ◌∙◌, subst}
+use Rattle.std.proofs.Common.{◌≡◌, ℕ, ◌+◌, ◌<◌, List, [], ◌++◌, length, get_or, drop, sym, refl, ap, ◌∙◌, subst}
 use Rattle.std.proofs.lemmas.List.{drop_more, append_assoc}
 use Rattle.meaning.specs.declared.order.Order.{Order}
 use Rattle.meaning.specs.declared.record.Record.{Record}
@@ -7,7 +7,7 @@ use Rattle.meaning.specs.Rules.{Policy}
 use Rattle.journal.specs.declared.journal.Journal as journal
 use Rattle.policy.specs.declared.policy.Policy as policy
 use Rattle.steps.specs.Written.{Wrote}
-use Rattle.steps.proofs.Writes.{wrote_then}
+use Rattle.steps.proofs.Writes.{wrote_none, wrote_then}
 use Rattle.book.specs.declared.book.Book.{Book}
 use Rattle.book.specs.States.{policy_of}
 use Rattle.promise.specs.declared.call.Call.{Call}
@@ -30,6 +30,9 @@ module _ {J P : Type 0} (j : journal.Ghosts J) (p : policy.Ghosts P) (os : List 
     pub wrote : Wrote j b.journal new b'.journal
     pub policy : b'.policy ≡ b.policy
     pub reading : b'.reading ≡ b.reading
+
+  pub along_none : Along 0 b d
+  along_none = record { new = []; left = refl; adds_left = refl; wrote = wrote_none j b.journal; policy = refl; reading = refl }
 
   pub along_more : (i : ℕ) (o : Call) (b' b'' : Book J P j p) (d' d'' : Desk) → i < length cs → Along i b' d' → Calls j p os b' d' (get_or cs i o) b'' d'' → Along (i + 1) b'' d''
   along_more i o b' b'' d' d'' lt A M =

@@ -7,6 +7,7 @@ pub mod desk;
 pub mod histories;
 pub mod keeping;
 pub mod runs;
+pub mod takeovers;
 pub mod told;
 
 pub use call::{Ask, Call, Span};

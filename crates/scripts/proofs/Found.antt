@@ -11,7 +11,7 @@ use Rattle.journal.specs.Strips.{used_of, listed}
 use Rattle.reading.specs.Stands.{start_of}
 use Rattle.steps.specs.Written.{records_of, entries_of}
 use Rattle.book.specs.States.{begins}
-use Rattle.promise.specs.Histories.{beginning}
+use Rattle.promise.specs.Takeovers.{beginning}
 use Rattle.scripts.specs.declared.bad.Bad.{Bad}
 use Rattle.scripts.specs.declared.page.Page.{Page}
 use Rattle.scripts.specs.Courses.{Course}

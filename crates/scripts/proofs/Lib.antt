@@ -10,3 +10,4 @@ pub mod Endings
 pub mod Found
 pub mod Reading
 pub mod Wholly
+pub mod Longest

@@ -16,6 +16,7 @@ use Rattle.scripts.specs.declared.plain.PlainPolicy.{PlainPolicy}
 use Rattle.scripts.specs.declared.plain.PlainPolicy.TheVariants.{Open as OpenToAll, Floor, Ceiling}
 use Rattle.scripts.specs.declared.step.Step.{Step}
 use Rattle.scripts.specs.declared.step.Step.TheVariants.{Open, Run, Move, Report, Account, Reservation, Moment, Reading}
+use Rattle.scripts.specs.Limits.{most_orders, most_answers, most_lapses, most_bytes}
 
 -- what is made of the next n bytes, where there are so many
 abbrev pub with_next : {X : Type 0} → ℕ → List ℕ → (List ℕ → Result X Bad) → Result X Bad
@@ -86,8 +87,8 @@ call_of n bs f = then_do (with_next n bs f) (λ s. Ok (record { step = s; orders
 
 abbrev pub batch_at : List ℕ → Result (Call × List ℕ) Bad
 batch_at bs =
-    then_do (with_next 1 bs (λ f. at_most 64 (byte f 0))) (λ n.
-    then_do (with_next 1 (drop 1 bs) (λ f. at_most 64 (byte f 0))) (λ places.
+    then_do (with_next 1 bs (λ f. at_most most_orders (byte f 0))) (λ n.
+    then_do (with_next 1 (drop 1 bs) (λ f. at_most most_answers (byte f 0))) (λ places.
     then_do (orders_at n (drop 2 bs)) (λ r. Ok (record { step = Run n places; orders = r.0 }, r.1))))
 
 -- the call of a code
@@ -95,8 +96,8 @@ abbrev pub coded : ℕ → List ℕ → Result (Call × List ℕ) Bad
 coded code bs =
     cond (code == 1) (call_of 23 bs (λ f. Ok (Open (opening_of f))))
     (cond (code == 2) (batch_at bs)
-    (cond (code == 3) (call_of 10 bs (λ f. then_do (at_most 300 (u16_at f 8)) (λ places. Ok (Move (u64_at f 0) places))))
-    (cond (code == 4) (call_of 2 bs (λ f. then_do (at_most 8192 (u16_at f 0)) (λ places. Ok (Report places))))
+    (cond (code == 3) (call_of 10 bs (λ f. then_do (at_most most_lapses (u16_at f 8)) (λ places. Ok (Move (u64_at f 0) places))))
+    (cond (code == 4) (call_of 2 bs (λ f. then_do (at_most most_bytes (u16_at f 0)) (λ places. Ok (Report places))))
     (cond (code == 5) (call_of 4 bs (λ f. Ok (Account (u32_at f 0))))
     (cond (code == 6) (call_of 4 bs (λ f. Ok (Reservation (u32_at f 0))))
     (cond (code == 7) (call_of 0 bs (λ f. Ok Moment))

@@ -1,4 +1,6 @@
 pub mod PlainPolicies
+pub mod Limits
+pub mod Listings
 pub mod Forms
 pub mod Readers
 pub mod Pages

@@ -11,6 +11,7 @@ use Rattle.scripts.specs.declared.step.Step.{Step}
 use Rattle.scripts.specs.declared.step.Step.TheVariants.{Open, Run, Move, Report, Account, Reservation, Moment, Reading}
 use Rattle.scripts.specs.Courses.{Course, over_at, with_call}
 use Rattle.scripts.specs.Forms.{Call, then_do, call_at, script_at}
+use Rattle.scripts.specs.Limits.{most_orders, most_answers, most_lapses, most_bytes}
 
 -- the orders of a call, which stand at the front of a list
 abbrev pub orders_in : Step → List Order → List Order
@@ -26,9 +27,9 @@ orders_in Reading list = []
 -- its lists are no longer than allowed
 abbrev pub Within : Step → Type 0
 Within (Open A) = Unit {0}
-Within (Run n places) = (n ≤ 64) × (places ≤ 64)
-Within (Move t places) = places ≤ 300
-Within (Report places) = places ≤ 8192
+Within (Run n places) = (n ≤ most_orders) × (places ≤ most_answers)
+Within (Move t places) = places ≤ most_lapses
+Within (Report places) = places ≤ most_bytes
 Within (Account n) = Unit {0}
 Within (Reservation n) = Unit {0}
 Within Moment = Unit {0}

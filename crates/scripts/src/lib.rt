@@ -2,6 +2,7 @@
 #![tactic(auto)]
 
 mod bad;
+mod fitting;
 mod head;
 mod making;
 mod page;
@@ -12,4 +13,5 @@ mod showing;
 mod step;
 
 pub use bad::Bad;
+pub use fitting::listings_fit;
 pub use running::run;

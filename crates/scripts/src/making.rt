@@ -2,6 +2,7 @@
 ghost use Rattle.std.specs.Prelude.{ℕ, ◌≤◌, List};
 ghost use Rattle.meaning.specs.declared.order.Order.{Order as Ordered};
 ghost use Rattle.scripts.specs.declared.step.Step.TheVariants.{Open, Run, Move, Report};
+ghost use Rattle.scripts.specs.Limits.{most_answers, most_lapses, most_bytes};
 ghost use Rattle.scripts.specs.Made.{Made};
 ghost use Rattle.scripts.specs.Readers.{orders_in, Within};
 
@@ -36,7 +37,7 @@ fn run<J: Journal, P: Policy>(
     places: usize,
     page: &mut Page<'_>,
 ) -> Result<(), Bad>
-    requires { places ≤ 64 }
+    requires { places ≤ most_answers }
     ensures { (n : ℕ) → Made J.Journal P.Policy book.old orders.now (Run n places) page.old result book.new page.new }
 {
     let mut answers = [Err(Refusal::AnswersTooShort); ANSWERS];
@@ -51,7 +52,7 @@ fn move_to<J: Journal, P: Policy>(
     places: usize,
     page: &mut Page<'_>,
 ) -> Result<(), Bad>
-    requires { places ≤ 300 }
+    requires { places ≤ most_lapses }
     ensures { (os : List Ordered) → Made J.Journal P.Policy book.old os (Move moment places) page.old result book.new page.new }
 {
     let mut lapses = [u32::MAX; LAPSES];
@@ -65,7 +66,7 @@ fn report<J: Journal, P: Policy>(
     places: usize,
     page: &mut Page<'_>,
 ) -> Result<(), Bad>
-    requires { places ≤ 8192 }
+    requires { places ≤ most_bytes }
     ensures { (os : List Ordered) → Made J.Journal P.Policy book.now os (Report places) page.old result book.now page.new }
 {
     let mut bytes = [UNWRITTEN; BYTES];

@@ -5,7 +5,7 @@ ghost use Rattle.scripts.specs.Forms.{plain_policy};
 ghost use Rattle.scripts.specs.PlainPolicies.{admits_of};
 
 use crate::bad::Bad;
-use meaning::Totals;
+use meaning::{Limit, Totals};
 use policy::{Ceiling, Floor, Open, Policy};
 
 #[derive(Clone, Copy)]
@@ -31,7 +31,7 @@ impl Policy for PlainPolicy {
 
     ghost lawful = { Prim.search rules };
 
-    fn admits(&self, class: u8, limit: u64, totals: &Totals) -> bool {
+    fn admits(&self, class: u8, limit: Limit, totals: &Totals) -> bool {
         match self {
             PlainPolicy::Open => Open.admits(class, limit, totals),
             PlainPolicy::Floor => Floor.admits(class, limit, totals),

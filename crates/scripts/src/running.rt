@@ -1,7 +1,7 @@
 // A script, run from its head to its end.
 ghost use Rattle.std.specs.Prelude.{◌≡◌, ℕ, ◌≤◌, List, Ok, Err, length};
 ghost use Rattle.book.specs.States.{policy_of, state_of};
-ghost use Rattle.promise.specs.Histories.{beginning};
+ghost use Rattle.promise.specs.Takeovers.{beginning};
 ghost use Rattle.scripts.specs.declared.bad.Bad.{Bad as BadScript};
 ghost use Rattle.scripts.specs.declared.head.JournalKind.TheVariants.{Roll as OnRoll, Strip as OnStrip, RollAndStrip as OnRollAndStrip, StripAndRoll as OnStripAndRoll};
 ghost use Rattle.scripts.specs.Ended.{ending, told, output_after, memory_after};

@@ -4,6 +4,7 @@ ghost use Rattle.layout.specs.Layout.{bytes_of as entry_bytes};
 ghost use Rattle.std.specs.Option.{option_map};
 ghost use Rattle.meaning.specs.Numbers.{answer_of};
 ghost use Rattle.meaning.specs.Rows.{standing_of};
+ghost use Rattle.scripts.specs.Limits.{most_answers, most_lapses};
 ghost use Rattle.scripts.specs.Pages.{laid, if_fits, Put, PutBefore};
 ghost use Rattle.scripts.specs.declared.bad.Bad.TheVariants.{Output};
 ghost use Rattle.scripts.specs.Told.{as_4, or_0, told_opened, told_ran, told_moved, told_reported, told_account, fate_number, told_reservation, told_moment, told_reading, told_journal};
@@ -27,7 +28,7 @@ pub fn show_opened(page: &mut Page<'_>, answer: &Answer) -> Result<(), Bad>
 
 // The numbers of answers, at the front.
 fn numbers_of(answers: &[Answer]) -> [u8; ANSWERS]
-    requires { length answers.now ≤ 64 }
+    requires { length answers.now ≤ most_answers }
     ensures { take (length answers.now) result ≡ map answer_of answers.now }
 {
     let mut numbers = [0; ANSWERS];
@@ -42,7 +43,7 @@ pub(crate) fn show_ran(
     answer: &Result<usize, Refusal>,
     answers: &[Answer],
 ) -> Result<(), Bad>
-    requires { length answers.now ≤ 64 }
+    requires { length answers.now ≤ most_answers }
     ensures same { page.new.bytes.ghost_name ≡ page.old.bytes.ghost_name }
     ensures put { Put page.old (told_ran answer.now answers.now) result page.new }
 {
@@ -56,7 +57,7 @@ pub(crate) fn show_ran(
 
 // Numbers as bytes, at the front.
 fn bytes_of(numbers: &[u32]) -> [u8; 4 * LAPSES]
-    requires { length numbers.now ≤ 300 }
+    requires { length numbers.now ≤ most_lapses }
     ensures { take (4 * length numbers.now) result ≡ flat_map as_4 numbers.now }
 {
     let mut bytes = [0; 4 * LAPSES];
@@ -80,7 +81,7 @@ pub(crate) fn show_moved(
     answer: &Result<Moved, Refusal>,
     lapses: &[u32],
 ) -> Result<(), Bad>
-    requires { length lapses.now ≤ 300 }
+    requires { length lapses.now ≤ most_lapses }
     ensures same { page.new.bytes.ghost_name ≡ page.old.bytes.ghost_name }
     ensures put { Put page.old (told_moved answer.now lapses.now) result page.new }
 {
@@ -115,7 +116,7 @@ fn show_statement(page: &mut Page<'_>, account: &Account) -> Result<(), Bad>
         &account.number.to_be_bytes(),
         &account.ledger.to_be_bytes(),
         &[account.class],
-        &account.limit.to_be_bytes(),
+        &account.limit.litres.to_be_bytes(),
         &account.label.code.to_be_bytes(),
         &debits.pending.to_be_bytes(),
         &debits.posted.to_be_bytes(),

@@ -1,5 +1,6 @@
 // One call of a script.
 ghost use Rattle.std.specs.Prelude.{◌≡◌, ◌≤◌, Ok, IfOk, take};
+ghost use Rattle.scripts.specs.Limits.{most_orders};
 ghost use Rattle.scripts.specs.Readers.{with_list, behind, Within};
 ghost use Rattle.scripts.specs.Forms.{then_do, orders_at, batch_at, call_at, with_next, at_most, opening_of, action_of, order_of};
 
@@ -7,13 +8,16 @@ use crate::bad::Bad;
 use crate::reader::{Reader, bytes_at};
 use meaning::{Action, Opening, Order};
 
+// How long the lists of a call may be at most: a batch's orders, their answers, and the numbers of what lapses.
 pub const ORDERS: usize = 64;
 
 pub const ANSWERS: usize = 64;
 
 pub const LAPSES: usize = 300;
 
-pub const BYTES: usize = 8192;
+// The longest buffer of a report. The listing of every book fits: no account's line has more than 98 bytes, no sum line
+// more than 91, and there are at most 64 of each.
+pub const BYTES: usize = 12_096;
 
 #[derive(Clone, Copy)]
 pub enum Step {
@@ -112,7 +116,7 @@ fn read_order(reader: &mut Reader<'_>) -> Result<Order, Bad>
 
 // So many orders, to the front of a list.
 fn read_orders(reader: &mut Reader<'_>, list: &mut [Order; ORDERS], count: usize) -> Result<(), Bad>
-    requires { count ≤ 64 }
+    requires { count ≤ most_orders }
     ensures { then_do result (λ _. Ok (take count list.new, reader.new.rest.now)) ≡ orders_at count reader.old.rest.now }
 {
     for place in 0..count {

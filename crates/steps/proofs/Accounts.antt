@@ -1,9 +1,10 @@
 -- What the tables say of an account that is to be opened is what the journal says.
 use Rattle.std.proofs.Common.{◌≡◌, ℕ, ◌^◌, ◌≤◌, Bool, true, false, not, ◌||◌, eqb, ltb, leb, List, [], ◌∷◌, length, Some, None, Option, Ok, sym, refl, ap, ◌∙◌, arith}
-use Rattle.std.specs.Option.{option_map, ok_or, is_some, option_or}
-use Rattle.std.proofs.lemmas.Bool.{le-leb, lt-ltb, and_from}
+use Rattle.std.specs.Option.{option_map, ok_or, is_some, option_or, IfSome}
+use Rattle.std.proofs.lemmas.Bool.{le-leb, le-ltb, leb-true, lt-ltb, and_from}
 use Rattle.meaning.specs.declared.account.Account.{Account}
 use Rattle.meaning.specs.declared.label.Label.{Label}
+use Rattle.meaning.specs.declared.limit.Limit.{Limit as Bound}
 use Rattle.meaning.specs.declared.opening.Opening.{Opening}
 use Rattle.meaning.specs.declared.refusal.Refusal.{Refusal}
 use Rattle.meaning.specs.declared.refusal.Refusal.TheVariants.{AccountNumber, Ledger, Limit, LabelMalformed, AccountsFull, JournalFull, AccountNotAdmitted}
@@ -73,6 +74,11 @@ label_made n b o e made = go (is_label n) (λ ok. record { code = n; ok = ok }) 
     go : (t : Bool) (f : t ≡ true → Label) → ((p : t ≡ true) → (f p).code ≡ n) → Ok b ≡ ok_or (only t f) LabelMalformed → (t ≡ true) × (b.code ≡ n)
     go true f c q = let w : b ≡ f refl = cc in (refl, ap (λ (x : Label). x.code) w ∙ c refl)
     go false f c q = absurd (let z : ◌≡◌ {A = ℕ} 0 1 = cc in omega arith)
+
+-- and a limit of a number within the top
+pub limit_made : (m : ℕ) (l : Bound) (o : Option Bound) → is_some o ≡ leb m top → IfSome o (λ (x : Bound). x.litres ≡ m) → Ok l ≡ ok_or o Limit → (ltb top m ≡ false) × (l.litres ≡ m)
+limit_made m l None is has made = absurd (let z : ◌≡◌ {A = ℕ} 0 1 = cc in omega arith)
+limit_made m l (Some x) is has made = (le-ltb top m (leb-true m top (sym is)), let w : l ≡ x = cc in ap (λ (b : Bound). b.litres) w ∙ has)
 
 -- nothing goes through an account before it is opened
 pub stands_at_zero : (policy : Policy) (J : Journal) (T : ℕ) → Reads policy J → (A : Opening) → the_account J A.number ≡ None → at_zero A ≡ standing J T A

@@ -13,7 +13,7 @@ use Rattle.meaning.specs.Sound.{last, sound}
 use Rattle.journal.specs.declared.journal.Journal as journal
 use Rattle.balances.specs.declared.balances.Balances.{Balances}
 use Rattle.balances.specs.Books.{books_of}
-use Rattle.balances.specs.Undone.{legs_of}
+use Rattle.balances.specs.Undone.{legs_of, written_of}
 use Rattle.laws.specs.Steps.{Ready}
 use Rattle.image.specs.Image.{image_of}
 use Rattle.steps.specs.Written.{journal_of, Wrote}
@@ -23,6 +23,7 @@ pub record Ran (policy : Policy) (J : Journal) (T : ℕ) (os : List Order) (r : 
   pub stop : result_err r ≡ first_refused policy J T os
   pub tables : is_ok r ≡ true → books_of after ≡ image_of (grown J (map (leg_writes T) os)) T
   pub legs : is_ok r ≡ true → legs_of after ≡ length os
+  pub written : is_ok r ≡ true → written_of after ≡ map (leg_writes T) os
   pub sound : is_ok r ≡ true → AllByRecursion (λ o. sound (leg_writes T o) ≡ true) os
 
 module _ {J : Type 0} (j : journal.Ghosts J) (policy : Policy) where

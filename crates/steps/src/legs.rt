@@ -7,9 +7,9 @@ ghost use Rattle.meaning.specs.Basics.{first_of};
 ghost use Rattle.meaning.specs.Given.{Journal};
 ghost use Rattle.meaning.specs.Limits.{most_legs};
 ghost use Rattle.meaning.specs.Rows.{standing_of};
-ghost use Rattle.meaning.specs.Rules.{Policy as Admission, policy_checks, movement_refused, deadline as deadline_of, content_of};
+ghost use Rattle.meaning.specs.Rules.{Policy as Admission, policy_checks, movement_refused, deadline as deadline_of, content_of, leg_writes};
 ghost use Rattle.meaning.specs.Sound.{last, is_until};
-ghost use Rattle.balances.specs.Chains.{GoesOn};
+ghost use Rattle.balances.specs.Chains.{GoesOn, Writes, leg_of};
 ghost use Rattle.balances.specs.Undone.{legs_of};
 ghost use Rattle.steps.specs.Legs.{Narrow};
 ghost use Rattle.steps.specs.Shown.{Shown, Stepped};
@@ -46,7 +46,7 @@ fn check_movement<P: Policy>(
 }
 
 // The deadline of a reserve: none, said by 0 as in a record, where the duration is 0.
-pub(crate) fn deadline(moment: u64, duration: u32) -> u64
+fn deadline(moment: u64, duration: u32) -> u64
     ensures until { moment ≤ last → result ≡ deadline_of moment duration }
     ensures narrow { duration < 2 ^ 32 }
 {
@@ -61,11 +61,14 @@ fn take_transfer<P: Policy>(
     chain: &mut Chain<'_>,
     policy: &P,
     number: u32,
+    linked: bool,
     debit: u32,
     credit: u32,
     amount: u64,
 ) -> Result<(), Refusal>
     ensures goes_on { GoesOn chain.old (is_ok result) chain.new }
+    ensures written { Writes chain.old (is_ok result)
+        (leg_of chain.old number linked (Transfer debit credit amount)) chain.new }
     ensures leg { (J : Journal) (T : ℕ) → Shown (P.Policy.admits policy.now) J T chain.old.balances.now → legs_of chain.old.balances.now < most_legs → Stepped (P.Policy.admits policy.now) J T number (Transfer debit credit amount) result chain.new.balances.now }
 {
     let movement = Movement {
@@ -76,15 +79,19 @@ fn take_transfer<P: Policy>(
         posted: amount,
     };
     check_movement(chain, policy, movement)?;
-    chain.transfer(number, debit, credit, amount)
+    chain.transfer(number, linked, debit, credit, amount)
 }
 
 fn take_reserve<P: Policy>(
     chain: &mut Chain<'_>,
     policy: &P,
+    linked: bool,
     held: Reservation,
 ) -> Result<(), Refusal>
     ensures goes_on { GoesOn chain.old (is_ok result) chain.new }
+    ensures written { Writes chain.old (is_ok result)
+        (leg_of chain.old held.number linked (Reserve held.debit held.credit held.amount held.deadline))
+        chain.new }
     ensures leg { (J : Journal) (T : ℕ) → Shown (P.Policy.admits policy.now) J T chain.old.balances.now → legs_of chain.old.balances.now < most_legs → held.fate ≡ Live → is_until T held.deadline ≡ true → Stepped (P.Policy.admits policy.now) J T held.number (Reserve held.debit held.credit held.amount held.deadline) result chain.new.balances.now }
 {
     let movement = Movement {
@@ -95,45 +102,56 @@ fn take_reserve<P: Policy>(
         posted: 0,
     };
     check_movement(chain, policy, movement)?;
-    chain.reserve(held)
+    chain.reserve(linked, held)
 }
 
 fn take_post(
     chain: &mut Chain<'_>,
     number: u32,
+    linked: bool,
     reservation: u32,
     amount: u64,
 ) -> Result<(), Refusal>
     ensures goes_on { GoesOn chain.old (is_ok result) chain.new }
+    ensures written { Writes chain.old (is_ok result)
+        (leg_of chain.old number linked (Post reservation amount)) chain.new }
     ensures leg { (policy : Admission) (J : Journal) (T : ℕ) → Shown policy J T chain.old.balances.now → legs_of chain.old.balances.now < most_legs → Stepped policy J T number (Post reservation amount) result chain.new.balances.now }
 {
-    chain.post(number, reservation, amount)
+    chain.post(number, linked, reservation, amount)
 }
 
-fn take_void(chain: &mut Chain<'_>, number: u32, reservation: u32) -> Result<(), Refusal>
-    ensures goes_on { GoesOn chain.old (is_ok result) chain.new }
-    ensures leg { (policy : Admission) (J : Journal) (T : ℕ) → Shown policy J T chain.old.balances.now → legs_of chain.old.balances.now < most_legs → Stepped policy J T number (Void reservation) result chain.new.balances.now }
-{
-    chain.void(number, reservation)
-}
-
-// Gives a leg to a chain at a moment, or says why not and leaves it.
-pub fn run_leg<P: Policy>(
+fn take_void(
     chain: &mut Chain<'_>,
-    policy: &P,
-    moment: u64,
-    order: &Order,
+    number: u32,
+    linked: bool,
+    reservation: u32,
 ) -> Result<(), Refusal>
     ensures goes_on { GoesOn chain.old (is_ok result) chain.new }
-    ensures leg { (J : Journal) → Shown (P.Policy.admits policy.now) J moment chain.old.balances.now → legs_of chain.old.balances.now < most_legs → moment ≤ last → Stepped (P.Policy.admits policy.now) J moment order.now.number (content_of moment order.now.action) result chain.new.balances.now }
+    ensures written { Writes chain.old (is_ok result)
+        (leg_of chain.old number linked (Void reservation)) chain.new }
+    ensures leg { (policy : Admission) (J : Journal) (T : ℕ) → Shown policy J T chain.old.balances.now → legs_of chain.old.balances.now < most_legs → Stepped policy J T number (Void reservation) result chain.new.balances.now }
+{
+    chain.void(number, linked, reservation)
+}
+
+// Gives a leg to a chain, or says why not and leaves it.
+pub fn run_leg<P: Policy>(chain: &mut Chain<'_>, policy: &P, order: &Order) -> Result<(), Refusal>
+    ensures goes_on { GoesOn chain.old (is_ok result) chain.new }
+    ensures written { chain.old.moment ≤ last
+        → Writes chain.old (is_ok result) (leg_writes chain.old.moment order.now) chain.new }
+    ensures leg { (J : Journal) → Shown (P.Policy.admits policy.now) J chain.old.moment chain.old.balances.now
+        → legs_of chain.old.balances.now < most_legs → chain.old.moment ≤ last
+        → Stepped (P.Policy.admits policy.now) J chain.old.moment order.now.number
+        (content_of chain.old.moment order.now.action) result chain.new.balances.now }
 {
     let number = order.number;
+    let linked = order.linked;
     match order.action {
         Action::Transfer {
             debit,
             credit,
             amount,
-        } => take_transfer(chain, policy, number, debit, credit, amount),
+        } => take_transfer(chain, policy, number, linked, debit, credit, amount),
         Action::Reserve {
             debit,
             credit,
@@ -145,15 +163,15 @@ pub fn run_leg<P: Policy>(
                 debit,
                 credit,
                 amount,
-                deadline: deadline(moment, duration),
+                deadline: deadline(chain.moment(), duration),
                 fate: Fate::Live,
             };
-            take_reserve(chain, policy, held)
+            take_reserve(chain, policy, linked, held)
         }
         Action::Post {
             reservation,
             amount,
-        } => take_post(chain, number, reservation, amount),
-        Action::Void { reservation } => take_void(chain, number, reservation),
+        } => take_post(chain, number, linked, reservation, amount),
+        Action::Void { reservation } => take_void(chain, number, linked, reservation),
     }
 }

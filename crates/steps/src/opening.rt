@@ -9,8 +9,8 @@ ghost use Rattle.steps.specs.Openings.{at_zero, Narrowed, Opens};
 ghost use Rattle.steps.specs.Shown.{Shown};
 
 use balances::Balances;
-use meaning::limits::{ACCOUNTS, TOP};
-use meaning::{Account, Label, Opening, Refusal, Totals};
+use meaning::limits::ACCOUNTS;
+use meaning::{Account, Label, Limit, Opening, Refusal, Totals};
 use policy::Policy;
 
 // A number that is free, and a ledger.
@@ -28,8 +28,8 @@ fn check_place(balances: &Balances, number: u32, ledger: u16) -> Result<(), Refu
 }
 
 // The policy's word on an account with four zeros.
-fn check_zeros<P: Policy>(policy: &P, class: u8, limit: u64) -> Result<(), Refusal>
-    ensures answer { result_err result ≡ first_of (zeros_checks (P.Policy.admits policy.now) class limit) }
+fn check_zeros<P: Policy>(policy: &P, class: u8, limit: Limit) -> Result<(), Refusal>
+    ensures answer { result_err result ≡ first_of (zeros_checks (P.Policy.admits policy.now) class limit.litres) }
     ensures narrow { class < 2 ^ 8 }
 {
     if policy.admits(class, limit, &Totals::zero()) {
@@ -51,9 +51,7 @@ fn check_opening<P: Policy>(
     ensures narrow { OnOk result (Narrowed opening.now) }
 {
     check_place(balances, opening.number, opening.ledger)?;
-    if opening.limit > TOP {
-        return Err(Refusal::Limit);
-    }
+    let limit = Limit::new(opening.limit).ok_or(Refusal::Limit)?;
     let label = Label::new(opening.label).ok_or(Refusal::LabelMalformed)?;
     if balances.opened() >= ACCOUNTS {
         return Err(Refusal::AccountsFull);
@@ -61,12 +59,12 @@ fn check_opening<P: Policy>(
     if spare == 0 {
         return Err(Refusal::JournalFull);
     }
-    check_zeros(policy, opening.class, opening.limit)?;
+    check_zeros(policy, opening.class, limit)?;
     Ok(Account {
         number: opening.number,
         ledger: opening.ledger,
         class: opening.class,
-        limit: opening.limit,
+        limit,
         label,
         totals: Totals::zero(),
     })

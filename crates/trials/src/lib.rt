@@ -1,9 +1,11 @@
 // Trials of records and journals: a record by its bytes, damaged strips, and a client's own journal.
-// Also how large the tables are.
+// Also rows of both keys, and how large the tables are.
 #![tactic(auto)]
 
 #[cfg(test)]
 mod counted;
+#[cfg(test)]
+mod rows;
 #[cfg(test)]
 mod sizes;
 #[cfg(test)]

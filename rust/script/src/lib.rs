@@ -7,6 +7,6 @@ mod run;
 mod script;
 
 pub use code::Code;
-pub use parse::parse;
+pub use parse::{parse, MOST_LAPSES, MOST_REPORT_BYTES};
 pub use run::{run, run_counted, Outcome};
 pub use script::{Call, Head, JournalKind, Script};

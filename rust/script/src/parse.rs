@@ -7,9 +7,11 @@ use engine::{Order, Policy, Task};
 const VERSION: u8 = 1;
 const HEAD_BYTES: usize = 14;
 const ORDER_BYTES: usize = 26;
-const MOST_ORDERS: usize = 64;
-const MOST_LAPSES: usize = 300;
-const MOST_REPORT_BYTES: usize = 8192;
+const MOST_ORDERS: u8 = 64;
+/// The most places of a list of lapses.
+pub const MOST_LAPSES: u16 = 300;
+/// The longest buffer of a report.
+pub const MOST_REPORT_BYTES: u16 = 12096;
 
 /// The script, or the first fault in it.
 pub fn parse(bytes: &[u8]) -> Result<Script, Code> {
@@ -105,12 +107,11 @@ fn order(bytes: &[u8]) -> Result<Order, Code> {
     Ok(Order { number: number(&bytes[0..4]) as u32, linked, task })
 }
 
-fn within(length: impl Into<usize>, most: usize) -> Result<usize, Code> {
-    let length = length.into();
+fn within<T: Into<usize> + PartialOrd>(length: T, most: T) -> Result<usize, Code> {
     if length > most {
         Err(Code::List)
     } else {
-        Ok(length)
+        Ok(length.into())
     }
 }
 
@@ -190,7 +191,7 @@ mod tests {
             (order_of_no_kind, Code::Order),
             (with_calls(&[3, 0, 0, 0, 0, 0, 0, 0, 0, 1]), Code::Cut),
             (with_calls(&[3, 0, 0, 0, 0, 0, 0, 0, 0, 1, 45]), Code::List),
-            (with_calls(&[4, 32, 1]), Code::List),
+            (with_calls(&[4, 47, 65]), Code::List),
             (with_calls(&[7, 8, 6, 0, 0, 0]), Code::Cut),
         ];
         for (bytes, code) in table {
@@ -200,7 +201,7 @@ mod tests {
 
     #[test]
     fn calls() {
-        let bytes = with_calls(&[7, 8, 5, 0, 0, 0, 2, 4, 32, 0, 2, 0, 64]);
+        let bytes = with_calls(&[7, 8, 5, 0, 0, 0, 2, 4, 47, 64, 2, 0, 64]);
         let script = parse(&bytes).expect("sound");
         assert_eq!(script.head.used, 7);
         assert_eq!(script.head.policy, Policy::Open);
@@ -208,7 +209,7 @@ mod tests {
             Call::AskMoment,
             Call::AskReading,
             Call::AskAccount(2),
-            Call::Report { bytes: 8192 },
+            Call::Report { bytes: 12096 },
             Call::Batch { orders: vec![], answers: 64 },
         ];
         assert_eq!(script.calls, expected);

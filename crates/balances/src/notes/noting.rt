@@ -1,31 +1,35 @@
 // Legs are noted, and handed back to be put back.
-ghost use Rattle.std.specs.Prelude.{◌≡◌, ◌<◌, ◌++◌, [], true, length, is_ok, map, IfNone};
+ghost use Rattle.std.specs.Prelude.{◌≡◌, ◌<◌, ◌++◌, [], true, length, cond, is_ok, is_some, nat_le, map, if◌then◌else◌, IfNone};
 ghost use Rattle.std.specs.Option.{option_to_list};
 ghost use Rattle.std.specs.Result.{result_err};
 ghost use Rattle.meaning.specs.Limits.{most_legs};
 ghost use Rattle.balances.specs.Judged.{full_judged};
-ghost use Rattle.balances.specs.Noted.{trace_of, no_legs, with_trace};
+ghost use Rattle.balances.specs.Noted.{trace_of, trace_in, no_legs, with_leg};
 
-use super::{Notes, Undo};
+use super::{Leg, Notes, Undo};
 use crate::plain::opening::{NO_DUE, NO_RESERVATION, no_account};
-use meaning::Refusal;
+use crate::receipt::{NO_RECORD, Receipt};
 use meaning::limits::{LEGS, RESERVATIONS};
+use meaning::{Record, Refusal};
 use ordered::{Due, Row};
 
 // Not inlined, so that the places are filled where they stay, as those of accounts are.
 #[inline(never)]
-fn none_noted() -> Row<Undo, LEGS>
+fn none_noted() -> Row<Leg, LEGS>
     ensures { result ≡ [] }
 {
-    Row::new(Undo {
-        debit: 0,
-        debit_was: no_account(),
-        credit: 0,
-        credit_was: no_account(),
-        slot: 0,
-        slot_was: NO_RESERVATION,
-        reserved_was: 0,
-        highest_was: 0,
+    Row::new(Leg {
+        undo: Undo {
+            debit: 0,
+            debit_was: no_account(),
+            credit: 0,
+            credit_was: no_account(),
+            slot: 0,
+            slot_was: NO_RESERVATION,
+            reserved_was: 0,
+            highest_was: 0,
+        },
+        fields: NO_RECORD,
     })
 }
 
@@ -59,30 +63,40 @@ impl Notes {
         Ok(())
     }
 
-    // Notes what a leg writes over, where there is room for one leg more.
-    pub(crate) fn note(&mut self, undo: Undo)
-        ensures { self.new ≡ with_trace (trace_of undo) self.old }
+    // How many legs there are.
+    pub(crate) fn count(&self) -> usize
+        ensures { result ≡ length self.now.traces }
     {
-        self.legs.push(undo);
+        self.legs.len()
+    }
+
+    // Notes a leg, where there is room for one more.
+    pub(crate) fn note(&mut self, undo: Undo, fields: Record)
+        ensures { self.new ≡ with_leg (trace_of undo) fields self.old }
+    {
+        self.legs.push(Leg { undo, fields });
     }
 
     // Takes back what was noted last.
-    pub(crate) fn take_last(&mut self) -> Option<Undo>
-        ensures traces { self.old.traces ≡ self.new.traces ++ map trace_of (option_to_list result) }
+    pub(crate) fn take_last(&mut self) -> Option<Leg>
+        ensures traces { self.old.traces ≡ self.new.traces ++ map trace_in (option_to_list result) }
         ensures none { IfNone result (self.old.traces ≡ []) }
         ensures queue { self.new.queue ≡ self.old.queue }
     {
         self.legs.pop()
     }
 
-    // Forgets the legs; how many they were.
-    pub(crate) fn settle(&mut self) -> usize
-        ensures legs { result ≡ length self.old.traces }
-        ensures forgotten { self.new ≡ no_legs self.old.queue }
+    // The receipt of the legs, if it has room for them; and then they are forgotten.
+    #[inline(always)]
+    pub(crate) fn settle<const N: usize>(&mut self) -> Option<Receipt<N>>
+        ensures receipt { result
+            ≡ cond (nat_le (length self.old.traces) N) (Some self.old.records) None }
+        ensures forgotten { self.new
+            ≡ (if is_some result then no_legs self.old.queue else self.old) }
     {
-        let legs = self.legs.len();
+        let receipt = Receipt::of(self.legs.as_slice())?;
         self.legs.truncate(0);
-        legs
+        Some(receipt)
     }
 
     // The queue as it was.

@@ -6,7 +6,7 @@ ghost use Rattle.balances.specs.Contents.{empty, no_row, opened_with};
 
 use super::Tables;
 use meaning::limits::ACCOUNTS;
-use meaning::{Account, Fate, Label, Reservation, Totals};
+use meaning::{Account, Fate, Label, Limit, Reservation, Totals};
 use ordered::{Due, Line, Row};
 
 // What stands at no place.
@@ -17,7 +17,7 @@ pub(crate) fn no_account() -> Account
         number: 0,
         ledger: 0,
         class: 0,
-        limit: 0,
+        limit: Limit::zero(),
         label: Label::unused(),
         totals: Totals::zero(),
     }

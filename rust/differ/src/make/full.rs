@@ -5,6 +5,7 @@ use super::values::head;
 use crate::case::{pattern, Case};
 use crate::plan::{Call, Head, Order, Plan};
 use crate::rng::Rng;
+use script::MOST_REPORT_BYTES;
 
 pub fn tables(mut rng: Rng) -> Case {
     let any = head(&mut rng).with_used(0);
@@ -19,7 +20,7 @@ pub fn tables(mut rng: Rng) -> Case {
     calls.extend(reserve_batches(&mut planner, reserves));
     calls.extend(planner.calls(20));
     let report = planner.report();
-    calls.extend([report, Call::Report { bytes: 8192 }]);
+    calls.extend([report, Call::Report { bytes: MOST_REPORT_BYTES }]);
     calls.extend(last_moves(&mut planner));
     Case::of_plan(Plan { head, calls }, pattern(memory))
 }
@@ -61,7 +62,7 @@ fn last_moves(planner: &mut Planner) -> Vec<Call> {
         calls.push(Call::Move { moment, lapses });
         calls.push(planner.batch());
         calls.push(Call::Move { moment, lapses: 256 });
-        calls.push(Call::Report { bytes: 8192 });
+        calls.push(Call::Report { bytes: MOST_REPORT_BYTES });
     }
     calls
 }

@@ -6,6 +6,7 @@ use crate::case::{pattern, Case};
 use crate::plan::{Call, Plan};
 use crate::rng::Rng;
 use crate::told::parts;
+use script::{MOST_LAPSES, MOST_REPORT_BYTES};
 
 pub fn edges(mut rng: Rng) -> Case {
     let head = head(&mut rng).with_used(0);
@@ -15,7 +16,7 @@ pub fn edges(mut rng: Rng) -> Case {
     for call in planner.calls(count) {
         calls.push(with_room(call));
     }
-    calls.push(Call::Report { bytes: 8192 });
+    calls.push(Call::Report { bytes: MOST_REPORT_BYTES });
     let mut plan = Plan { head, calls };
     let memory = pattern(1 + 48 * 60);
     fit(&mut plan, &memory, &mut planner.rng);
@@ -24,8 +25,8 @@ pub fn edges(mut rng: Rng) -> Case {
 
 fn with_room(call: Call) -> Call {
     match call {
-        Call::Move { moment, .. } => Call::Move { moment, lapses: 300 },
-        Call::Report { .. } => Call::Report { bytes: 8192 },
+        Call::Move { moment, .. } => Call::Move { moment, lapses: MOST_LAPSES },
+        Call::Report { .. } => Call::Report { bytes: MOST_REPORT_BYTES },
         other => other,
     }
 }
@@ -38,8 +39,8 @@ fn fit(plan: &mut Plan, memory: &[u8], rng: &mut Rng) {
     let (parts, _) = parts(&script.calls, &output);
     for (call, part) in plan.calls.iter_mut().zip(parts) {
         match call {
-            Call::Move { lapses, .. } => *lapses = near(part, rng).min(300),
-            Call::Report { bytes } => *bytes = near(part, rng).min(8192),
+            Call::Move { lapses, .. } => *lapses = near(part, rng).min(MOST_LAPSES),
+            Call::Report { bytes } => *bytes = near(part, rng).min(MOST_REPORT_BYTES),
             _ => {}
         }
     }

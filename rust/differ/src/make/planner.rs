@@ -5,6 +5,7 @@ use super::values::{amount, class, duration, edge_moment, label, limit};
 use crate::plan::{Call, Order};
 use crate::rng::Rng;
 use engine::{Fate, Past};
+use script::{MOST_LAPSES, MOST_REPORT_BYTES};
 
 /// How often things of a script are out of the common, in a thousand times.
 #[derive(Clone, Copy, Debug)]
@@ -253,7 +254,7 @@ impl Planner {
             0 => self.rng.below(4),
             1 => self.rng.below(20),
             2 => 256,
-            3 => 300,
+            3 => MOST_LAPSES.into(),
             _ => 40,
         };
         Call::Move { moment, lapses: lapses as u16 }
@@ -285,7 +286,7 @@ impl Planner {
         let bytes = match self.rng.below(4) {
             0 => self.rng.below(40),
             1 => self.rng.below(400),
-            _ => self.rng.within(400, 8192),
+            _ => self.rng.within(400, MOST_REPORT_BYTES.into()),
         };
         Call::Report { bytes: bytes as u16 }
     }

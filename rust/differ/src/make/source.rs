@@ -36,7 +36,9 @@ pub struct Source {
 impl Source {
     pub fn new(seed: u64) -> Source {
         let mut rng = Rng::new(seed);
-        Source { small: rng.next(), sweeps: Vec::new(), rng, spent: [0; FAMILIES.len()], last: 0 }
+        // The full books are the first of all sweeps, so that they are run whatever the seed.
+        let sweeps = sweeps::full_books().collect();
+        Source { small: rng.next(), sweeps, rng, spent: [0; FAMILIES.len()], last: 0 }
     }
 
     /// The next case, of the family that is furthest behind its share.

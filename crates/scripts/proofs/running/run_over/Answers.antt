@@ -3,7 +3,7 @@ use Rattle.steps.specs.Written.{journal_of, Wrote}
 use Rattle.book.specs.States.{policy_of, state_of}
 use Rattle.meaning.specs.Calls.{State}
 use Rattle.meaning.specs.Rules.{Policy as Admission}
-use Rattle.promise.specs.Histories.{beginning}
+use Rattle.promise.specs.Takeovers.{beginning}
 use Rattle.scripts.specs.Made.{MadeAll}
 use Rattle.scripts.specs.Readers.{course_at}
 use Rattle.scripts.specs.Told.{told_journal}

@@ -18,6 +18,7 @@ returns c =
     let b = a.chain.now.balances.now in
     record {
       goes_on = t.goes_on;
+      written = t.written;
       leg = λ policy J T shown lt.
           let judged = post_judged a.number a.reservation a.amount (books_of b) in
           stepped policy J T a.number (Post a.reservation a.amount) c.post.result (books_of b) (λ (k : Books). closed event a.number (held_place k a.reservation) a.amount k) c.post.new.self.balances.now

@@ -22,6 +22,7 @@ returns g c =
     let policy = g.P.Policy.admits c.args.policy.now in
     record {
       goes_on = t.goes_on;
+      written = t.written;
       leg = λ J T shown lt live later.
           let passed = c.in_ok-check_movement.ensures.answer J T shown (omega arith) in
           let room = ap (λ x. option_or x (room_judged (books_of b))) (room_for_leg b lt) ∙ room_judged_lem policy J T shown.reads (books_of b) shown.tables in

@@ -15,6 +15,7 @@ returns g c =
     let policy = g.P.Policy.admits a.policy.now in
     record {
       goes_on = t.goes_on;
+      written = t.written;
       leg = λ J T shown lt.
           let passed = c.in_ok-check_movement.ensures.answer J T shown (omega arith) in
           stepped policy J T a.number (Transfer a.debit a.credit a.amount) c.transfer.result (books_of b) (transferred a.number a.debit a.credit a.amount) c.transfer.new.self.balances.now

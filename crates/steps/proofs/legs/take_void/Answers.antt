@@ -18,6 +18,7 @@ returns c =
     let b = a.chain.now.balances.now in
     record {
       goes_on = t.goes_on;
+      written = t.written;
       leg = λ policy J T shown lt.
           let judged = void_judged a.number a.reservation (books_of b) in
           stepped policy J T a.number (Void a.reservation) c.void.result (books_of b) (λ (k : Books). closed event a.number (held_place k a.reservation) 0 k) c.void.new.self.balances.now

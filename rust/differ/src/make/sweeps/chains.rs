@@ -53,7 +53,7 @@ pub fn lengths() -> impl Iterator<Item = Case> {
             let moves = [7, 8, 9].map(|moment| Call::Move { moment, lapses });
             after(moves.into(), batch(orders))
         });
-    let reports = (0..=60).chain([8191, 8192, 8193, 8448, 16384, 32768, 65535]);
+    let reports = (0..=60).chain([8192, 8193, 12095, 12096, 12097, 12352, 16384, 32768, 65535]);
     let reports = reports.map(|bytes| after_openings(Call::Report { bytes }));
     answers.chain(orders).chain(lapses).chain(reports)
 }

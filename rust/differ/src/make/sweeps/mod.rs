@@ -1,5 +1,6 @@
 //! Cases that go through all values of something: lengths of chains, lists, strips and scripts.
 
+mod books;
 mod chains;
 mod records;
 mod scripts;
@@ -10,9 +11,11 @@ use crate::case::Case;
 use crate::plan::{Call, Head, Order, Plan};
 use crate::rng::Rng;
 
+pub use books::full_books;
+
 const DAM: u64 = 0x44414D2020202020;
 
-/// All sweeps in mixed order; the generator chooses the scripts that are cut and changed.
+/// All sweeps but the full books, in mixed order; the generator chooses the scripts that are cut and changed.
 pub fn all(mut rng: Rng) -> Vec<Case> {
     let base = loop {
         let case = deep::short(rng.clone());

@@ -12,4 +12,4 @@ returns-clause-back c =
     let i = c.args.slot in
     let R = get_or k.held i no_reservation in
     let traced = c.trace.ensures ∙ ap (λ (Q : Reservation). tracing Q.debit Q.credit i k) c.reservation_at-held.ensures in
-    λ room. leg_back c.args.self.now.notes _ _ (tracing R.debit R.credit i k) k _ _ c.note.ensures traced c.close.ensures room (close_back k _ c.args.event c.args.number i c.args.part)
+    λ room. leg_back c.args.self.now.notes _ _ (tracing R.debit R.credit i k) c.args.fields k _ _ c.note.ensures traced c.close.ensures room (close_back k _ c.args.event c.args.fields.number i c.args.part)

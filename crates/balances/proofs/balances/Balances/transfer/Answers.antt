@@ -8,4 +8,4 @@ pub returns-clause-back : goal.returns-clause-back
 returns-clause-back c =
     let k = books_of c.args.self.now in
     let traced = c.trace.ensures ∙ ap (λ i. tracing c.args.debit c.args.credit i k) c.reserved-no_slot.ensures in
-    λ room. leg_back c.args.self.now.notes _ _ (tracing c.args.debit c.args.credit (length k.held) k) k _ _ c.note.ensures traced c.transfer.ensures room (transfer_back k _ c.args.number c.args.debit c.args.credit c.args.amount)
+    λ room. leg_back c.args.self.now.notes _ _ (tracing c.args.debit c.args.credit (length k.held) k) c.args.fields k _ _ c.note.ensures traced c.transfer.ensures room (transfer_back k _ c.args.fields.number c.args.debit c.args.credit c.args.amount)

@@ -1,0 +1,100 @@
+// Rows of each of the two keys, put in out of order and taken out again, beside lists written by hand.
+use ordered::{Due, Line, Row};
+
+fn due(deadline: u64, number: u32) -> Due {
+    Due { deadline, number }
+}
+
+fn line(ledger: u16, label: &[u8; 8], number: u32) -> Line {
+    Line {
+        label: u64::from_be_bytes(*label),
+        number,
+        ledger,
+    }
+}
+
+#[test]
+fn a_row_of_deadlines(rt: HostRuntime) {
+    let mut row: Row<Due, 6> = Row::new(due(0, 0));
+    // The last one finds the row full.
+    let keys = [
+        due(60, 4),
+        due(30, 9),
+        due(1099511627776, 1),
+        due(60, 2),
+        due(30, 10),
+        due(60, 4),
+        due(5, 5),
+    ];
+    for key in keys {
+        row.put(key);
+    }
+    let all = [
+        due(30, 9),
+        due(30, 10),
+        due(60, 2),
+        due(60, 4),
+        due(60, 4),
+        due(1099511627776, 1),
+    ];
+    assert!(rt; row.as_slice() == all.as_slice());
+    // The first two are not there, though their deadlines and their numbers are.
+    for key in [due(30, 4), due(61, 2), due(60, 4), due(30, 9)] {
+        row.take_out(key);
+    }
+    let left = [due(30, 10), due(60, 2), due(60, 4), due(1099511627776, 1)];
+    assert!(rt; row.as_slice() == left.as_slice());
+    for key in [due(1099511627776, 1), due(30, 10), due(60, 4), due(60, 2)] {
+        row.take_out(key);
+    }
+    assert!(rt; row.as_slice().is_empty());
+}
+
+#[test]
+fn a_row_of_lines(rt: HostRuntime) {
+    let mut row: Row<Line, 6> = Row::new(line(0, b"        ", 0));
+    // The last one finds the row full.
+    let keys = [
+        line(12, b"SPRING  ", 4),
+        line(7, b"MILL    ", 2),
+        line(7, b"DAM1    ", 1),
+        line(7, b"MILL    ", 2),
+        line(7, b"DAM     ", 6),
+        line(7, b"DAM     ", 5),
+        line(1, b"A       ", 9),
+    ];
+    for key in keys {
+        row.put(key);
+    }
+    let all = [
+        line(7, b"DAM     ", 5),
+        line(7, b"DAM     ", 6),
+        line(7, b"DAM1    ", 1),
+        line(7, b"MILL    ", 2),
+        line(7, b"MILL    ", 2),
+        line(12, b"SPRING  ", 4),
+    ];
+    assert!(rt; row.as_slice() == all.as_slice());
+    // The first three are not there: each differs in one part from a key that is.
+    let out = [
+        line(8, b"DAM     ", 5),
+        line(7, b"DAMS    ", 1),
+        line(12, b"SPRING  ", 5),
+        line(7, b"MILL    ", 2),
+        line(7, b"DAM     ", 5),
+    ];
+    for key in out {
+        row.take_out(key);
+    }
+    let left = [
+        line(7, b"DAM     ", 6),
+        line(7, b"DAM1    ", 1),
+        line(7, b"MILL    ", 2),
+        line(12, b"SPRING  ", 4),
+    ];
+    assert!(rt; row.as_slice() == left.as_slice());
+    for key in left {
+        row.take_out(key);
+    }
+    assert!(rt; row.as_slice().is_empty());
+}
