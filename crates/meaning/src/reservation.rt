@@ -1,5 +1,6 @@
 // Water that was set aside, and what became of it.
-ghost use Rattle.std.specs.Prelude.{◌≡◌};
+ghost use Rattle.std.specs.Prelude.{◌≡◌, ◌&&◌};
+ghost use Rattle.meaning.specs.Given.{due, is_live};
 ghost use Rattle.meaning.specs.Rows.{met};
 
 use crate::fate::{Event, Fate};
@@ -22,5 +23,12 @@ impl Reservation {
         ensures { self.new ≡ met event self.old }
     {
         self.fate.meet(event);
+    }
+
+    // Live, with a deadline that has come.
+    pub fn is_due(&self, moment: u64) -> bool
+        ensures { result ≡ (is_live self.now.fate && due self.now.deadline moment) }
+    {
+        self.fate == Fate::Live && self.deadline != 0 && self.deadline <= moment
     }
 }
