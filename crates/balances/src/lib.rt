@@ -4,7 +4,7 @@
 pub mod balances;
 pub mod chain;
 mod notes;
-mod numbered;
+pub mod numbered;
 pub mod outlook;
 mod plain;
 pub mod receipt;

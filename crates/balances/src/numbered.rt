@@ -1,10 +1,11 @@
 // Things that are known by a number, and how one is found.
-ghost use Rattle.std.specs.Prelude.{◌≡◌, ℕ, ◌==◌, not};
+ghost use Rattle.std.specs.Prelude.{◌≡◌, ℕ, ◌≤◌, ◌==◌, not, length};
 ghost use Rattle.std.specs.List.{prefix_len};
 
 use meaning::{Account, Reservation};
 
-pub(crate) trait Numbered {
+/// What is known by a number: accounts and reservations are.
+pub trait Numbered {
     ghost number: { Self → ℕ };
 
     fn number(&self) -> u32
@@ -27,10 +28,11 @@ impl Numbered for Reservation {
     }
 }
 
-// The first place of a number among the items, or how many they are: there a row has no item to give, so callers need
-// no second case.
-pub(crate) fn place_of<T: Numbered>(items: &[T], number: u32) -> usize
-    ensures { result ≡ prefix_len (λ x. not (T.Numbered.number x == number)) items.now }
+/// The first place of a number among the items, or how many they are: there a row has no item to give, so callers need
+/// no second case.
+pub fn place_of<T: Numbered>(items: &[T], number: u32) -> usize
+    ensures place { result ≡ prefix_len (λ x. not (T.Numbered.number x == number)) items.now }
+    ensures within { result ≤ length items.now }
 {
     items
         .iter()
