@@ -1,5 +1,5 @@
 -- What is noted while a chain is open.
-use Rattle.std.specs.Prelude.{◌≡◌, ℕ, cond, List, [], ◌∷◌, ◌++◌, length, nat_lt}
+use Rattle.std.specs.Prelude.{◌≡◌, ℕ, cond, List, [], ◌∷◌, ◌++◌, length, map, nat_lt}
 use Rattle.std.specs.List.{AllByRecursion}
 use Rattle.meaning.specs.declared.record.Record.{Record}
 use Rattle.meaning.specs.declared.reservation.Reservation.{Reservation}
@@ -7,7 +7,9 @@ use Rattle.meaning.specs.Limits.{most_legs}
 use Rattle.meaning.specs.declared.standing.Standing.{Standing}
 use Rattle.meaning.specs.Rows.{standing_of}
 use Rattle.ordered.specs.declared.due.Due.{Due}
+use Rattle.ordered.specs.Items.{items}
 use Rattle.balances.specs.declared.notes.Leg.{Leg}
+use Rattle.balances.specs.declared.notes.Notes.{Notes}
 use Rattle.balances.specs.declared.notes.Undo.{Undo}
 
 -- what a leg wrote over
@@ -45,6 +47,9 @@ pub record Noted : Type 0 where
   pub traces : List Trace
   pub records : List Record
   pub queue : List Due
+
+abbrev pub noted : Notes → Noted
+noted n = record { traces = map trace_in (items n.legs); records = map record_of (items n.legs); queue = items n.queue }
 
 -- each of these is written at the moment T
 abbrev pub AtMoment : ℕ → List Record → Type 0

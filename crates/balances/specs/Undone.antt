@@ -5,7 +5,7 @@ use Rattle.ordered.specs.declared.due.Due.{Due}
 use Rattle.balances.specs.declared.balances.Balances.{Balances}
 use Rattle.balances.specs.Books.{books_of}
 use Rattle.balances.specs.Contents.{Books}
-use Rattle.balances.specs.Noted.{Trace, Noted}
+use Rattle.balances.specs.Noted.{Trace, Noted, noted}
 
 -- one leg put back: what it wrote over, the credit row first
 abbrev pub undone : Trace → Books → Books
@@ -21,7 +21,7 @@ unwound [] k = k
 unwound (t ∷ ts) k = undone t (unwound ts k)
 
 abbrev pub noted_of : Balances → Noted
-noted_of b = b.notes
+noted_of b = noted b.notes
 
 -- how many legs are noted, and what they write into a journal
 abbrev pub legs_of : Balances → ℕ

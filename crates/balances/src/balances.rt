@@ -8,7 +8,7 @@ use crate::plain::Tables;
 mod calls;
 mod legs;
 
-#[derive(Drop)]
+#[derive(Clone, Copy)]
 pub struct Balances {
     pub(crate) tables: Tables,
     pub(crate) notes: Notes,

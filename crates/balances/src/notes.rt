@@ -2,7 +2,6 @@
 use meaning::limits::{LEGS, RESERVATIONS};
 use meaning::{Account, Record, Reservation};
 use ordered::{Due, Row};
-use std::marker::Model;
 
 mod noting;
 
@@ -26,18 +25,9 @@ pub struct Leg {
     pub(crate) fields: Record,
 }
 
-#[derive(Drop)]
+// Clauses see what is noted, by `noted`: a view as a type (`Model`) would hide what a copy needs.
+#[derive(Clone, Copy)]
 pub struct Notes {
     queue: Row<Due, RESERVATIONS>,
     legs: Row<Leg, LEGS>,
-}
-
-// Clauses see what is noted.
-impl Model for Notes {
-    ghost use Rattle.std.specs.Prelude.{map};
-    ghost use Rattle.balances.specs.Noted.{Noted, trace_in, record_of};
-
-    ghost Value = { Noted };
-
-    ghost view = { λ n. record { traces = map trace_in n.legs; records = map record_of n.legs; queue = n.queue } };
 }

@@ -11,7 +11,7 @@ pub(crate) mod opening;
 mod places;
 mod undoing;
 
-#[derive(Drop)]
+#[derive(Clone, Copy)]
 pub struct Tables {
     reservations: Row<Reservation, RESERVATIONS>,
     queue: Row<Due, RESERVATIONS>,

@@ -2,3 +2,4 @@ pub mod Rows
 pub mod Laws
 pub mod Orders
 pub mod Keyed
+pub mod Items

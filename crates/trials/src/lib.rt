@@ -1,5 +1,5 @@
 // Trials of records and journals: a record by its bytes, damaged strips, and a client's own journal.
-// Also rows of both keys, and how large the tables are.
+// Also rows of both keys, how large the tables are, and copies of both.
 #![tactic(auto)]
 
 #[cfg(test)]

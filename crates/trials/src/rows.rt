@@ -98,3 +98,14 @@ fn a_row_of_lines(rt: HostRuntime) {
     }
     assert!(rt; row.as_slice().is_empty());
 }
+
+// A copy stays as it is when a key is taken out of the other.
+#[test]
+fn a_copy_of_a_row(rt: HostRuntime) {
+    let mut row: Row<Due, 6> = Row::new(due(0, 0));
+    row.put(due(60, 4));
+    let copy = row;
+    row.take_out(due(60, 4));
+    assert!(rt; row.as_slice().is_empty());
+    assert!(rt; copy.as_slice() == [due(60, 4)].as_slice());
+}

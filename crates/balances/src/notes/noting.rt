@@ -3,8 +3,9 @@ ghost use Rattle.std.specs.Prelude.{◌≡◌, ◌<◌, ◌++◌, [], true, leng
 ghost use Rattle.std.specs.Option.{option_to_list};
 ghost use Rattle.std.specs.Result.{result_err};
 ghost use Rattle.meaning.specs.Limits.{most_legs};
+ghost use Rattle.ordered.specs.Items.{items};
 ghost use Rattle.balances.specs.Judged.{full_judged};
-ghost use Rattle.balances.specs.Noted.{trace_of, trace_in, no_legs, with_leg};
+ghost use Rattle.balances.specs.Noted.{noted, trace_of, trace_in, no_legs, with_leg};
 
 use super::{Leg, Notes, Undo};
 use crate::plain::opening::{NO_DUE, NO_RESERVATION, no_account};
@@ -16,7 +17,7 @@ use ordered::{Due, Row};
 // Not inlined, so that the places are filled where they stay, as those of accounts are.
 #[inline(never)]
 fn none_noted() -> Row<Leg, LEGS>
-    ensures { result ≡ [] }
+    ensures { items result ≡ [] }
 {
     Row::new(Leg {
         undo: Undo {
@@ -36,7 +37,7 @@ fn none_noted() -> Row<Leg, LEGS>
 impl Notes {
     // No legs, beside an empty queue.
     pub(crate) fn new() -> Notes
-        ensures { result ≡ no_legs [] }
+        ensures { noted result ≡ no_legs [] }
     {
         Notes {
             legs: none_noted(),
@@ -46,7 +47,7 @@ impl Notes {
 
     // Begins anew: no legs so far, and the queue as it is.
     pub(crate) fn begin(&mut self, queue: &Row<Due, RESERVATIONS>)
-        ensures { self.new ≡ no_legs queue.now }
+        ensures { noted self.new ≡ no_legs (items queue.now) }
     {
         self.legs.truncate(0);
         self.queue.copy_from(queue);
@@ -54,8 +55,8 @@ impl Notes {
 
     // Room for one leg more.
     pub(crate) fn check_legs(&self) -> Result<(), Refusal>
-        ensures answer { result_err result ≡ full_judged self.now }
-        ensures room { is_ok result ≡ true → length self.now.traces < most_legs }
+        ensures answer { result_err result ≡ full_judged (noted self.now) }
+        ensures room { is_ok result ≡ true → length (noted self.now).traces < most_legs }
     {
         if self.legs.is_full() {
             return Err(Refusal::ChainTooLong);
@@ -65,23 +66,24 @@ impl Notes {
 
     // How many legs there are.
     pub(crate) fn count(&self) -> usize
-        ensures { result ≡ length self.now.traces }
+        ensures { result ≡ length (noted self.now).traces }
     {
         self.legs.len()
     }
 
     // Notes a leg, where there is room for one more.
     pub(crate) fn note(&mut self, undo: Undo, fields: Record)
-        ensures { self.new ≡ with_leg (trace_of undo) fields self.old }
+        ensures { noted self.new ≡ with_leg (trace_of undo) fields (noted self.old) }
     {
         self.legs.push(Leg { undo, fields });
     }
 
     // Takes back what was noted last.
     pub(crate) fn take_last(&mut self) -> Option<Leg>
-        ensures traces { self.old.traces ≡ self.new.traces ++ map trace_in (option_to_list result) }
-        ensures none { IfNone result (self.old.traces ≡ []) }
-        ensures queue { self.new.queue ≡ self.old.queue }
+        ensures traces { (noted self.old).traces
+            ≡ (noted self.new).traces ++ map trace_in (option_to_list result) }
+        ensures none { IfNone result ((noted self.old).traces ≡ []) }
+        ensures queue { (noted self.new).queue ≡ (noted self.old).queue }
     {
         self.legs.pop()
     }
@@ -90,9 +92,9 @@ impl Notes {
     #[inline(always)]
     pub(crate) fn settle<const N: usize>(&mut self) -> Option<Receipt<N>>
         ensures receipt { result
-            ≡ cond (nat_le (length self.old.traces) N) (Some self.old.records) None }
-        ensures forgotten { self.new
-            ≡ (if is_some result then no_legs self.old.queue else self.old) }
+            ≡ cond (nat_le (length (noted self.old).traces) N) (Some (noted self.old).records) None }
+        ensures forgotten { noted self.new
+            ≡ (if is_some result then no_legs (noted self.old).queue else noted self.old) }
     {
         let receipt = Receipt::of(self.legs.as_slice())?;
         self.legs.truncate(0);
@@ -101,7 +103,7 @@ impl Notes {
 
     // The queue as it was.
     pub(crate) fn queue(&self) -> &Row<Due, RESERVATIONS>
-        ensures { result.now ≡ self.now.queue }
+        ensures { items result.now ≡ (noted self.now).queue }
     {
         &self.queue
     }

@@ -1,6 +1,7 @@
 // Empty tables, and one account more.
 ghost use Rattle.std.specs.Prelude.{◌≡◌, []};
 ghost use Rattle.meaning.specs.Rows.{standing_of};
+ghost use Rattle.ordered.specs.Items.{items};
 ghost use Rattle.balances.specs.Shown.{shown};
 ghost use Rattle.balances.specs.Contents.{empty, no_row, opened_with};
 
@@ -47,7 +48,7 @@ const NO_LINE: Line = Line {
 // inlined.
 #[inline(never)]
 fn no_accounts() -> Row<Account, ACCOUNTS>
-    ensures { result ≡ [] }
+    ensures { items result ≡ [] }
 {
     Row::new(no_account())
 }

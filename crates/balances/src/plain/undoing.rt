@@ -1,5 +1,6 @@
 // What legs write over, and how it is put back.
 ghost use Rattle.std.specs.Prelude.{◌≡◌};
+ghost use Rattle.ordered.specs.Items.{items};
 ghost use Rattle.balances.specs.Shown.{shown};
 ghost use Rattle.balances.specs.Legs.{tracing};
 ghost use Rattle.balances.specs.Noted.{trace_of};
@@ -43,14 +44,14 @@ impl Tables {
 
     // The queue.
     pub(crate) fn queue(&self) -> &Row<Due, RESERVATIONS>
-        ensures { result.now ≡ (shown self.now).queue }
+        ensures { items result.now ≡ (shown self.now).queue }
     {
         &self.queue
     }
 
     // Another queue in its place.
     pub(crate) fn put_queue(&mut self, queue: &Row<Due, RESERVATIONS>)
-        ensures { shown self.new ≡ with_queue queue.now (shown self.old) }
+        ensures { shown self.new ≡ with_queue (items queue.now) (shown self.old) }
     {
         self.queue.copy_from(queue);
     }

@@ -3,6 +3,7 @@ use Rattle.balances.specs.Books.{books_of}
 use Rattle.meaning.specs.declared.reservation.Reservation.{Reservation}
 use Rattle.balances.specs.Contents.{no_reservation}
 use Rattle.balances.specs.Legs.{tracing}
+use Rattle.balances.specs.Undone.{noted_of}
 use Rattle.balances.proofs.Undoing.{leg_back, close_back}
 use Rattle.balances.proofs.balances.Balances.close.Goals as goal
 
@@ -12,4 +13,4 @@ returns-clause-back c =
     let i = c.args.slot in
     let R = get_or k.held i no_reservation in
     let traced = c.trace.ensures ∙ ap (λ (Q : Reservation). tracing Q.debit Q.credit i k) c.reservation_at-held.ensures in
-    λ room. leg_back c.args.self.now.notes _ _ (tracing R.debit R.credit i k) c.args.fields k _ _ c.note.ensures traced c.close.ensures room (close_back k _ c.args.event c.args.fields.number i c.args.part)
+    λ room. leg_back (noted_of c.args.self.now) _ _ (tracing R.debit R.credit i k) c.args.fields k _ _ c.note.ensures traced c.close.ensures room (close_back k _ c.args.event c.args.fields.number i c.args.part)

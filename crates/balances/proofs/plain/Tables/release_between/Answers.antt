@@ -1,6 +1,7 @@
 use Rattle.std.proofs.Common.{rules}
 use Rattle.balances.specs.Shown.{shown}
 use Rattle.meaning.specs.Rows.{standing_of, debit_released, credit_released}
+use Rattle.ordered.specs.Items.{items}
 use Rattle.balances.specs.Contents.{no_row}
 use Rattle.balances.proofs.Tables.{shown_change, between}
 use Rattle.balances.proofs.plain.Tables.release_between.Goals as goal
@@ -10,5 +11,5 @@ returns c =
     let f = debit_released c.args.amount c.args.part in
     let h = credit_released c.args.amount c.args.part in
     between (shown c.args.self.now) f h c.args.debit c.args.credit c.account_place-from.ensures c.account_place-to.ensures
-    (shown_change standing_of f no_row c.args.self.now.accounts c.change.new.self c.account_place-from.result c.change.ensures.there c.change.ensures.nowhere (λ x y r. search rules))
-    (shown_change standing_of h no_row c.change.new.self c.change-2.new.self c.account_place-to.result c.change-2.ensures.there c.change-2.ensures.nowhere (λ x y r. search rules))
+    (shown_change standing_of f no_row (items c.args.self.now.accounts) (items c.change.new.self) c.account_place-from.result c.change.ensures.there c.change.ensures.nowhere (λ x y r. search rules))
+    (shown_change standing_of h no_row (items c.change.new.self) (items c.change-2.new.self) c.account_place-to.result c.change-2.ensures.there c.change-2.ensures.nowhere (λ x y r. search rules))

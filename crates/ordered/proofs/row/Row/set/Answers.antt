@@ -1,8 +1,7 @@
-use Rattle.std.proofs.Common.{set, ap, ◌∙◌}
 use lib.Seq.{take-set-lt}
 use Rattle.ordered.proofs.row.Row.set.Goals as goal
 
 pub returns-then-place-self : goal.returns-then-place-self
 returns-then-place-self g c =
-    let s = c.self.inside in
-    take-set-lt s.len s.places c.args.place c.args.item c.if-place-self.true ∙ ap (λ xs. set xs c.args.place c.args.item) c.self.view_is
+    let s = c.args.self.now in
+    take-set-lt s.len s.places c.args.place c.args.item c.if-place-self.true
