@@ -17,7 +17,8 @@ impl Balances {
         ensures legs { legs_of self.new ≡ 0 }
         ensures written { written_of self.new ≡ [] }
     {
-        self.notes.begin(self.tables.queue());
+        let queue = self.tables.queue();
+        self.notes.begin(queue);
     }
 
     // Moves an amount for good, by a leg of this record. Of this and the next two: what a leg notes depends on the room before
@@ -30,8 +31,9 @@ impl Balances {
             → written_of self.new ≡ written_of self.old ++ (fields ∷ []) }
     {
         let no_slot = self.tables.reserved();
+        let tables = &self.tables;
         self.notes
-            .note(self.tables.trace(debit, credit, no_slot), fields);
+            .note(tables.trace(debit, credit, no_slot), fields);
         self.tables.transfer(fields.number, debit, credit, amount);
     }
 
@@ -44,8 +46,9 @@ impl Balances {
             → written_of self.new ≡ written_of self.old ++ (fields ∷ []) }
     {
         let slot = self.tables.reserved();
+        let tables = &self.tables;
         self.notes
-            .note(self.tables.trace(held.debit, held.credit, slot), fields);
+            .note(tables.trace(held.debit, held.credit, slot), fields);
         self.tables.reserve(held);
     }
 
@@ -58,8 +61,9 @@ impl Balances {
             → written_of self.new ≡ written_of self.old ++ (fields ∷ []) }
     {
         let held = self.tables.reservation_at(slot);
+        let tables = &self.tables;
         self.notes
-            .note(self.tables.trace(held.debit, held.credit, slot), fields);
+            .note(tables.trace(held.debit, held.credit, slot), fields);
         self.tables.close(fields.number, slot, event, part);
     }
 
@@ -70,7 +74,8 @@ impl Balances {
         while let Some(leg) = self.notes.take_last() {
             self.tables.put_back(&leg.undo);
         }
-        self.tables.put_queue(self.notes.queue());
+        let queue = self.notes.queue();
+        self.tables.put_queue(queue);
     }
 
     // The receipt of the legs, if it has room for them; if not, they are put back.

@@ -1,0 +1,20 @@
+use Rattle.std.proofs.Common.{◌≡◌, ℕ, List, [], ◌∷◌, ◌++◌, refl, sym, ap, subst}
+use Rattle.meaning.specs.declared.record.Record.{Record}
+use Rattle.balances.specs.Noted.{AtMoment}
+use Rattle.balances.proofs.chain.Chain.post.Goals as goal
+
+one_more : (T : ℕ) (es : List Record) (e : Record) → AtMoment T es → e.moment ≡ T → AtMoment T (es ++ (e ∷ []))
+one_more T [] e h m = (m, tt)
+one_more T (x ∷ xs) e h m = (h.0, one_more T xs e h.1 m)
+
+pub returns-clause-goes_on : goal.returns-clause-goes_on
+returns-clause-goes_on c =
+    let room = c.in_ok-check_legs.ensures.room refl in
+    let moment = ap (λ (e : Record). e.moment) c.record-fields.ensures in
+    record {
+      same = refl;
+      moment = refl;
+      back = c.close.ensures.back room;
+      legs = c.close.ensures.legs room;
+      timely = λ h. subst (AtMoment c.args.self.now.moment) (sym (c.close.ensures.written room)) (one_more _ _ _ h moment);
+    }
