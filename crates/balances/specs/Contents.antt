@@ -4,7 +4,7 @@ use Rattle.std.specs.Prelude.{ℕ, ◌≤◌, cond, List, [], ◌∷◌, ◌++�
 use Rattle.std.specs.List.{position_or_len}
 use Rattle.meaning.specs.declared.reservation.Reservation.{Reservation}
 use Rattle.meaning.specs.declared.fate.Fate.TheVariants.{Live}
-use Rattle.meaning.specs.Limits.{most_accounts}
+use Rattle.meaning.specs.Limits.{most_accounts, most_reservations}
 use Rattle.meaning.specs.declared.standing.Standing.{Standing}
 use Rattle.ordered.specs.declared.due.Due.{Due}
 use Rattle.ordered.specs.declared.line.Line.{Line}
@@ -20,6 +20,10 @@ pub record Books : Type 0 where
 -- no more accounts, and no more lines of the listing, than there is room for
 abbrev pub Few : Books → Type 0
 Few k = (length k.rows ≤ most_accounts) × (length k.lines ≤ most_accounts)
+
+-- no more reservations, and no more keys of deadlines, than there is room for
+abbrev pub Fit : Books → Type 0
+Fit k = (length k.held ≤ most_reservations) × (length k.queue ≤ most_reservations)
 
 abbrev pub empty : Books
 empty = record { rows = []; held = []; highest = 0; queue = []; lines = [] }

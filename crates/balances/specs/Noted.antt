@@ -1,9 +1,9 @@
 -- What is noted while a chain is open.
-use Rattle.std.specs.Prelude.{◌≡◌, ℕ, cond, List, [], ◌∷◌, ◌++◌, length, map, nat_lt}
+use Rattle.std.specs.Prelude.{◌≡◌, ℕ, ◌≤◌, cond, List, [], ◌∷◌, ◌++◌, length, map, nat_lt}
 use Rattle.std.specs.List.{AllByRecursion}
 use Rattle.meaning.specs.declared.record.Record.{Record}
 use Rattle.meaning.specs.declared.reservation.Reservation.{Reservation}
-use Rattle.meaning.specs.Limits.{most_legs}
+use Rattle.meaning.specs.Limits.{most_legs, most_reservations}
 use Rattle.meaning.specs.declared.standing.Standing.{Standing}
 use Rattle.meaning.specs.Rows.{standing_of}
 use Rattle.ordered.specs.declared.due.Due.{Due}
@@ -50,6 +50,10 @@ pub record Noted : Type 0 where
 
 abbrev pub noted : Notes → Noted
 noted n = record { traces = map trace_in (items n.legs); records = map record_of (items n.legs); queue = items n.queue }
+
+-- no more legs, and no more keys of deadlines, than there is room for
+abbrev pub Short : Noted → Type 0
+Short n = (length n.traces ≤ most_legs) × (length n.queue ≤ most_reservations)
 
 -- each of these is written at the moment T
 abbrev pub AtMoment : ℕ → List Record → Type 0

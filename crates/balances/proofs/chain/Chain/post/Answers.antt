@@ -1,11 +1,8 @@
-use Rattle.std.proofs.Common.{◌≡◌, ℕ, List, [], ◌∷◌, ◌++◌, refl, sym, ap, subst}
+use Rattle.std.proofs.Common.{refl, sym, ap, subst}
 use Rattle.meaning.specs.declared.record.Record.{Record}
 use Rattle.balances.specs.Noted.{AtMoment}
+use Rattle.balances.proofs.Timely.{one_more}
 use Rattle.balances.proofs.chain.Chain.post.Goals as goal
-
-one_more : (T : ℕ) (es : List Record) (e : Record) → AtMoment T es → e.moment ≡ T → AtMoment T (es ++ (e ∷ []))
-one_more T [] e h m = (m, tt)
-one_more T (x ∷ xs) e h m = (h.0, one_more T xs e h.1 m)
 
 pub returns-clause-goes_on : goal.returns-clause-goes_on
 returns-clause-goes_on c =
