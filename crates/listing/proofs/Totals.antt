@@ -6,6 +6,7 @@ use Rattle.meaning.specs.Given.{Journal, accounts}
 use Rattle.meaning.specs.declared.standing.Standing.{Standing}
 use Rattle.meaning.specs.Questions.{standing}
 use Rattle.meaning.specs.Rows.{standing_of}
+use Rattle.ordered.specs.Items.{items}
 use Rattle.balances.specs.declared.balances.Balances.{Balances}
 use Rattle.balances.specs.Books.{Books, books_of}
 use Rattle.image.specs.Image.{oldest, image_of}
@@ -33,4 +34,4 @@ module _ {X : Type 0} (P : X → Type 0) where
   all_of_oldest f (y ∷ ys) h = let r = all_parts (oldest f ys) (f y ∷ []) h in (r.1.0, all_of_oldest f ys r.0)
 
 pub small : (b : Balances) (J : Journal) (T : ℕ) → books_of b ≡ image_of J T → All (λ A. Small (standing J T A)) (accounts J)
-small b J T e = all_of_oldest Small (standing J T) (accounts J) (subst (λ (k : Books). All Small k.rows) e (all_small b.tables.accounts))
+small b J T e = all_of_oldest Small (standing J T) (accounts J) (subst (λ (k : Books). All Small k.rows) e (all_small (items b.tables.accounts)))
