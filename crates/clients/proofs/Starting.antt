@@ -1,12 +1,11 @@
 -- A past that is made from nothing on: what the journal then holds.
 use Rattle.std.proofs.Common.{◌≡◌, ◌-◌, min, length, List, [], ◌++◌, ap, ◌∙◌}
+use Rattle.meaning.specs.declared.entry.Entry.{Entry}
 use Rattle.meaning.specs.declared.order.Order.{Order}
 use Rattle.meaning.specs.Calls.{State}
 use Rattle.meaning.specs.Reading.{reading as reading_of}
-use Rattle.ordered.specs.Items.{items}
 use Rattle.journal.specs.declared.journal.Journal as journal
 use Rattle.journal.specs.declared.mirror.Mirror.{Mirror}
-use Rattle.journal.specs.declared.roll.Roll.{Roll}
 use Rattle.policy.specs.declared.policy.Policy as policy
 use Rattle.steps.specs.Written.{journal_of, entries_of, records_of}
 use Rattle.reading.specs.Stands.{start_of}
@@ -22,10 +21,10 @@ use Rattle.promise.proofs.Living.{same-final, same-adds}
 use Rattle.clients.specs.Seasons.{season, before_all, season_was}
 
 -- a mirror of two rolls takes as many entries as either
-pub two_rolls : (m : Mirror Roll Roll) (r s : Roll) → m.first ≡ r → m.second ≡ s → 256 - length (items r.table) ≡ 256 → 256 - length (items s.table) ≡ 256 → min (256 - length (items m.first.table)) (256 - length (items m.second.table)) ≡ 256
+pub two_rolls : (m : Mirror (List Entry) (List Entry)) (r s : List Entry) → m.first ≡ r → m.second ≡ s → 256 - length r ≡ 256 → 256 - length s ≡ 256 → min (256 - length m.first) (256 - length m.second) ≡ 256
 two_rolls m r s one other first second =
-    ap (λ (x : Roll). min (256 - length (items x.table)) (256 - length (items m.second.table))) one ∙ (ap (λ (x : Roll). min (256 - length (items r.table)) (256 - length (items x.table))) other
-    ∙ (ap (λ n. min n (256 - length (items s.table))) first ∙ ap (min 256) second))
+    ap (λ (x : List Entry). min (256 - length x) (256 - length m.second)) one ∙ (ap (λ (x : List Entry). min (256 - length r) (256 - length x)) other
+    ∙ (ap (λ n. min n (256 - length s)) first ∙ ap (min 256) second))
 
 -- a state, and a desk as it is at first
 abbrev pub at_first : State → World

@@ -1,7 +1,6 @@
-use Rattle.std.proofs.Common.{◌≡◌, ◌-◌, min, [], ◌++◌, length, refl, ap, ◌∙◌}
+use Rattle.std.proofs.Common.{◌≡◌, ◌-◌, min, List, [], ◌++◌, length, refl, ap, ◌∙◌}
 use Rattle.std.proofs.Math.Nat.{min_comm}
-use Rattle.ordered.specs.Items.{items}
-use Rattle.journal.specs.declared.roll.Roll.{Roll}
+use Rattle.meaning.specs.declared.entry.Entry.{Entry}
 use Rattle.journal.specs.declared.strip.Strip.{Strip}
 use Rattle.journal.specs.Strips.{made_list, made_spare, room, listed}
 use Rattle.steps.specs.Written.{entries_of}
@@ -26,8 +25,8 @@ returns-clause-ran g c =
     let S' = c.apart-first.result.1 in
     let end = c.show_used-ended.ensures in
     let admits = g.P.Policy.admits c.args.policy in
-    let none = ap (λ (r : Roll). items r.table) of.one ∙ c.new.ensures.list in
-    let first = ap (λ (r : Roll). 256 - length (items r.table)) of.one ∙ c.new.ensures.spare in
+    let none = of.one ∙ c.new.ensures.list in
+    let first = ap (λ (r : List Entry). 256 - length r) of.one ∙ c.new.ensures.spare in
     let second = ap (λ (s : Strip). room s.memory.now - s.count) of.other ∙ made.spare in
     let spare = least first second ∙ min_comm 256 (made_spare m u) in
     let W = over _ X [] (min (made_spare m u) 256) none spare admits c.args.page.now c.args.calls.now _ _ _ c.run_over-mirror.ensures in

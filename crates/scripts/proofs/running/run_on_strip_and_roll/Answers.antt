@@ -1,6 +1,5 @@
-use Rattle.std.proofs.Common.{◌≡◌, ◌-◌, min, [], length, refl, ap, ◌∙◌}
-use Rattle.ordered.specs.Items.{items}
-use Rattle.journal.specs.declared.roll.Roll.{Roll}
+use Rattle.std.proofs.Common.{◌≡◌, ◌-◌, min, List, [], length, refl, ap, ◌∙◌}
+use Rattle.meaning.specs.declared.entry.Entry.{Entry}
 use Rattle.journal.specs.declared.strip.Strip.{Strip}
 use Rattle.journal.specs.Strips.{made_list, made_spare, room, listed}
 use Rattle.clients.specs.Rounds.{left}
@@ -25,7 +24,7 @@ returns-clause-ran g c =
     let admits = g.P.Policy.admits c.args.policy in
     let found = ap (λ (s : Strip). listed s.memory.now s.count) of.one ∙ made.list in
     let first = ap (λ (s : Strip). room s.memory.now - s.count) of.one ∙ made.spare in
-    let second = ap (λ (r : Roll). 256 - length (items r.table)) of.other ∙ c.new.ensures.spare in
+    let second = ap (λ (r : List Entry). 256 - length r) of.other ∙ c.new.ensures.spare in
     let spare = least first second in
     let W = over _ X (made_list m u) (min (made_spare m u) 256) found spare admits c.args.page.now c.args.calls.now _ _ _ c.run_over-mirror.ensures in
     let list = listed_then _ X (made_list m u) (min (made_spare m u) 256) found spare admits c.args.page.now c.args.calls.now _ _ _ c.run_over-mirror.ensures in
