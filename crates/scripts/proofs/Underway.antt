@@ -80,6 +80,10 @@ module _ {J P : Type 0} (j : journal.Ghosts J) (p : policy.Ghosts P) (b0 : Book 
       finished (suc k) rest b page (Ok tt) (subst (λ m. Underway m rest b page) some U)
       (ap (λ d. cond d (over_at b.moment (Ok tt)) (with_read admits room (state_of j p b) (call_at rest) (λ c rest. with_call admits room (state_of j p b) c page.next (λ s' n'. course_at admits room k s' rest n')))) done)
 
+  -- no call may follow
+  pub none_more : (n : ℕ) (rest : List ℕ) (b : Book J P j p) (page : Page) → n ≡ 0 → Underway n rest b page → MadeAll j p b0 whole page0 (Ok tt) b page
+  none_more n rest b page none U = finished 0 rest b page (Ok tt) (subst (λ m. Underway m rest b page) none U) refl
+
   pub not_read : (n k : ℕ) (rest : List ℕ) (b : Book J P j p) (page : Page) (x : Bad) → n ≡ suc k → (length rest == 0) ≡ false → call_at rest ≡ Err x → Underway n rest b page → MadeAll j p b0 whole page0 (Err x) b page
   not_read n k rest b page x some more cut U =
       let f = λ (c : Call) (rest : List ℕ). with_call admits room (state_of j p b) c page.next (λ s' n'. course_at admits room k s' rest n') in

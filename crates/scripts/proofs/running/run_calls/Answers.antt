@@ -1,7 +1,7 @@
 use Rattle.std.proofs.Common.{rules, ◌≡◌, ℕ, suc, ◌+◌, ◌-◌, List, length, Err, ap, sym, ◌∙◌, arith}
 use Rattle.book.specs.States.{policy_of, state_of}
 use Rattle.scripts.specs.Readers.{course_at}
-use Rattle.scripts.proofs.Underway.{begun, none_left, not_read, one_more, last_one}
+use Rattle.scripts.proofs.Underway.{begun, none_left, none_more, not_read, one_more, last_one}
 use Rattle.scripts.proofs.running.run_calls.Goals as goal
 
 pub loop-call-init : goal.loop-call-init
@@ -32,3 +32,6 @@ pub loop-call-preserved : goal.loop-call-preserved
 loop-call-preserved g c =
     let left : length c.args.calls.now - c.loop-call._call ≡ suc (length c.args.calls.now - (c.loop-call._call + 1)) = omega (arith, c.loop-call-test.true) in
     (omega (arith, c.loop-call-test.true), one_more _ _ _ _ _ _ _ _ _ _ _ _ left c.loop-call.invariant.1 (sym c.if-is_done.ensures) (sym c.in_ok-step.ensures.call) _ _ _ c.make.ensures c.in_ok-make.was)
+
+pub returns : goal.returns
+returns g c = none_more _ _ _ _ _ _ _ _ _ (omega (arith, c.loop-call-test.false, c.loop-call.invariant.0)) c.loop-call.invariant.1
