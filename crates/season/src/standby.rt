@@ -15,15 +15,24 @@ fn new_lists() -> Lists {
 }
 
 pub fn take_over(rt: &HostRuntime, memory: &mut [u8], used: usize) -> io::Result<()> {
+    take_over_from(rt, Roll::new(), Strip::make(memory, used))
+}
+
+// Over any two journals, since the borrow checker takes no pair of books of which one holds a borrow.
+fn take_over_from<J: Journal + Drop, K: Journal + Drop>(
+    rt: &HostRuntime,
+    journal: J,
+    other: K,
+) -> io::Result<()> {
     let (mut told, mut answers, mut lapses, mut bytes) = new_lists();
     let (mut my_told, mut my_answers, mut my_lapses, mut my_bytes) = new_lists();
     let (mut their_told, mut their_answers, mut their_lapses, mut their_bytes) = new_lists();
     let further = calls(after_the_season());
     let (first, second, arrival) = history(
-        Roll::new(),
+        journal,
         policy(),
         &calls(season()),
-        Strip::make(memory, used),
+        other,
         policy(),
         &further,
         &orders(),
