@@ -150,6 +150,8 @@ fn a_row_of_numbers(rt: HostRuntime) {
     let mut row: Row<u32, 4> = Row::new(0);
     assert!(rt; row.as_slice().is_empty());
     assert_eq!(rt; row.pop(), None);
+    push_and_pop(&mut row, 1);
+    assert_eq!(rt; row.len(), 0);
     for item in [5, 6, 7] {
         row.push(item);
     }
@@ -162,15 +164,20 @@ fn a_row_of_numbers(rt: HostRuntime) {
     assert!(rt; row.is_full());
     assert!(rt; row.as_slice() == [5, 6, 7, 8].as_slice());
     row.set(1, 10);
-    row.set(4, 11);
     row.change(2, |item| *item = 12);
-    row.change(4, |item| *item = 13);
     assert_eq!(rt; row.get(1), Some(10));
-    assert_eq!(rt; row.get(4), None);
     assert_eq!(rt; row.pop(), Some(8));
+    // The fourth place is there, and holds no item; a fifth is not.
+    for place in [3, 4] {
+        assert_eq!(rt; row.get(place), None);
+        row.set(place, 11);
+        row.change(place, |item| *item = 13);
+    }
     row.truncate(5);
-    let other = copied(&row);
+    let mut other = copied(&row);
+    assert!(rt; other.as_slice() == [5, 10, 12].as_slice());
     row.truncate(1);
     assert!(rt; row.as_slice() == [5].as_slice());
-    assert!(rt; other.as_slice() == [5, 10, 12].as_slice());
+    other.copy_from(&row);
+    assert!(rt; other.as_slice() == [5].as_slice());
 }
