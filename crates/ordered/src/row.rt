@@ -9,7 +9,8 @@ use crate::Key;
 use crate::copy_row::CopyRow;
 use std::marker::Model;
 
-// It can't be copied, since its view forgets what lies behind the items: where a copy is needed there is `CopyRow`.
+/// At most `N` items in the value itself, for who compares rows or keeps one in their own struct.
+/// It can't be copied, since its view forgets what lies behind the items: `CopyRow` can.
 #[derive(Drop)]
 pub struct Row<T: Copy, const N: usize> {
     row: CopyRow<T, N>,
@@ -28,7 +29,7 @@ impl<T: Copy, const N: usize> Model for Row<T, N> {
 }
 
 impl<T: Copy, const N: usize> Row<T, N> {
-    // No items; the blank stands in places that hold none, since there is no heap to grow on.
+    /// No items; the blank stands in places that hold none, since there is no heap to grow on.
     pub fn new(blank: T) -> Row<T, N>
         ensures { result ≡ [] }
     {
@@ -37,7 +38,8 @@ impl<T: Copy, const N: usize> Row<T, N> {
         }
     }
 
-    // That there are no more than N stands in this and the next two contracts, since a caller sees the list alone.
+    /// The items. That there are no more than `N` stands here and in the next two contracts, since
+    /// a caller sees the list alone.
     pub fn as_slice(&self) -> &[T]
         ensures items { result.now ≡ self.now }
         ensures within { length self.now ≤ N }
@@ -45,6 +47,7 @@ impl<T: Copy, const N: usize> Row<T, N> {
         self.row.as_slice()
     }
 
+    /// How many items there are.
     pub fn len(&self) -> usize
         ensures count { result ≡ length self.now }
         ensures within { length self.now ≤ N }
@@ -52,6 +55,7 @@ impl<T: Copy, const N: usize> Row<T, N> {
         self.row.len()
     }
 
+    /// Whether there is no room for one more.
     pub fn is_full(&self) -> bool
         ensures full { result ≡ (length self.now == N) }
         ensures within { length self.now ≤ N }
@@ -59,22 +63,22 @@ impl<T: Copy, const N: usize> Row<T, N> {
         self.row.is_full()
     }
 
-    // The item at a place, where there is one.
+    /// The item at a place, where there is one; the first place is 0.
     pub fn get(&self, place: usize) -> Option<T>
         ensures { result ≡ slice_get self.now place }
     {
         self.row.get(place)
     }
 
-    // Another item at a place, where there is one.
+    /// Another item at a place, where there is one.
     pub fn set(&mut self, place: usize, item: T)
         ensures { self.new ≡ slice_set self.old place item }
     {
         self.row.set(place, item);
     }
 
-    // Changes the item at a place, where there is one.
-    // What Rattle asks of each call of a closure stands as the `requires`: that it may be called.
+    /// Changes the item at a place, where there is one.
+    /// What Rattle asks of each call of a closure stands as the `requires`: that it may be called.
     pub fn change<F: FnOnce(&mut T)>(&mut self, place: usize, change: F)
         requires { F.IsAlwaysCallable change }
         ensures there { place < length self.old → (item : T)
@@ -85,14 +89,14 @@ impl<T: Copy, const N: usize> Row<T, N> {
         self.row.change(place, change);
     }
 
-    // One item more at the end. A full row stays as it is.
+    /// One item more at the end. A full row stays as it is.
     pub fn push(&mut self, item: T)
         ensures { self.new ≡ if_room N (λ xs. xs ++ item ∷ []) self.old }
     {
         self.row.push(item);
     }
 
-    // Takes the last item off.
+    /// Takes the last item off.
     pub fn pop(&mut self) -> Option<T>
         ensures items { self.old ≡ self.new ++ option_to_list result }
         ensures none { IfNone result (self.old ≡ []) }
@@ -100,14 +104,14 @@ impl<T: Copy, const N: usize> Row<T, N> {
         self.row.pop()
     }
 
-    // Keeps so many from the front.
+    /// Keeps so many from the front.
     pub fn truncate(&mut self, count: usize)
         ensures { self.new ≡ take count self.old }
     {
         self.row.truncate(count);
     }
 
-    // The items of another row, in place of its own.
+    /// The items of another row, in place of its own.
     pub fn copy_from(&mut self, other: &Row<T, N>)
         ensures { self.new ≡ other.now }
     {
@@ -116,14 +120,14 @@ impl<T: Copy, const N: usize> Row<T, N> {
 }
 
 impl<K: Key, const N: usize> Row<K, N> {
-    // Puts a key at its place, behind its equals. A full row stays as it is.
+    /// Puts a key at its place, behind its equals. A full row stays as it is.
     pub fn put(&mut self, key: K)
         ensures { self.new ≡ if_room N (put_in K.before key) self.old }
     {
         self.row.put(key);
     }
 
-    // Takes the first such key out, where it is there.
+    /// Takes the first such key out, where it is there.
     pub fn take_out(&mut self, key: K)
         ensures { self.new ≡ without K.before key self.old }
     {

@@ -126,7 +126,7 @@ fn a_copy_of_a_row(rt: HostRuntime) {
     assert!(rt; copy.as_slice() == [due(60, 4)].as_slice());
 }
 
-// What a caller learns by a row's value: what is pushed and taken off again leaves the row that it was.
+// What a caller learns by a row's value: a push that is taken back leaves the row that it was.
 fn push_and_pop(row: &mut Row<u32, 4>, item: u32)
     ensures { row.new ≡ row.old }
 {
