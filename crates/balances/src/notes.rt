@@ -1,7 +1,7 @@
 // What an open chain notes: what its legs wrote over, and the queue as it was.
 use meaning::limits::{LEGS, RESERVATIONS};
 use meaning::{Account, Record, Reservation};
-use ordered::{Due, Row};
+use ordered::{CopyRow, Due};
 
 mod noting;
 
@@ -28,6 +28,6 @@ pub struct Leg {
 // Clauses see what is noted, by `noted`: a view as a type (`Model`) would hide what a copy needs.
 #[derive(Clone, Copy)]
 pub struct Notes {
-    queue: Row<Due, RESERVATIONS>,
-    legs: Row<Leg, LEGS>,
+    queue: CopyRow<Due, RESERVATIONS>,
+    legs: CopyRow<Leg, LEGS>,
 }

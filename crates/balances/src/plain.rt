@@ -2,7 +2,7 @@
 // Their functions stand in modules below, since definitions name this struct.
 use meaning::limits::{ACCOUNTS, RESERVATIONS};
 use meaning::{Account, Reservation};
-use ordered::{Due, Line, Row};
+use ordered::{CopyRow, Due, Line};
 
 pub(crate) mod judging;
 mod lapses;
@@ -13,9 +13,9 @@ mod undoing;
 
 #[derive(Clone, Copy)]
 pub struct Tables {
-    reservations: Row<Reservation, RESERVATIONS>,
-    queue: Row<Due, RESERVATIONS>,
-    lines: Row<Line, ACCOUNTS>,
+    reservations: CopyRow<Reservation, RESERVATIONS>,
+    queue: CopyRow<Due, RESERVATIONS>,
+    lines: CopyRow<Line, ACCOUNTS>,
     highest: u32,
-    accounts: Row<Account, ACCOUNTS>,
+    accounts: CopyRow<Account, ACCOUNTS>,
 }

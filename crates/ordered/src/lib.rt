@@ -9,10 +9,12 @@ ghost use Rattle.ordered.specs.Keyed.{KeysAgree};
 ghost use Rattle.ordered.specs.Orders.{due_before, line_before};
 ghost use Rattle.ordered.specs.Rows.{apart, without, row_with, count_with, row_without};
 
+pub mod copy_row;
 pub mod due;
 pub mod line;
 pub mod row;
 
+pub use copy_row::CopyRow;
 pub use due::Due;
 pub use line::Line;
 pub use row::Row;
@@ -86,7 +88,7 @@ fn held<K: Copy>(row: &[K], len: usize) -> usize
     len.min(row.len())
 }
 
-// The two functions on a slice are there for whoever keeps keys in memory of their own; `Row` calls them too.
+// The two functions on a slice are there for whoever keeps keys in memory of their own; the rows call them too.
 
 // Puts `key` at its place among the first `len` of the row, behind its equals, and says how many there are then.
 // Where the row is full nothing changes.

@@ -1,4 +1,5 @@
 use crate::counted::Counted;
+use crate::leaf::Leaf;
 use journal::{Journal, Mirror, Roll, Strip};
 use layout::{decode, encode};
 use meaning::{Content, Entry, Record};
@@ -150,5 +151,21 @@ fn journals_over_journals(rt: HostRuntime) -> Result<(), Fail> {
     let mut roll = Roll::new();
     assert_eq!(rt; fill(&mut roll, entry), 256);
     assert_eq!(rt; roll.count(), 256);
+    Ok(())
+}
+
+// A journal that is kept in a row, beside a strip: each takes what the other does.
+#[test]
+fn a_row_beside_a_strip(rt: HostRuntime) -> Result<(), Fail> {
+    let entry = transfer()?;
+    let mut memory = [0; 145];
+    let mut mirror = Mirror::new(Leaf::new(entry), Strip::make(&mut memory, 0));
+    assert_eq!(rt; mirror.spare(), 3);
+    assert_eq!(rt; fill(&mut mirror, entry), 3);
+    assert_eq!(rt; mirror.count(), 3);
+    assert!(rt; mirror.entry_at(2).is_some() && mirror.entry_at(3).is_none());
+    let mut leaf = Leaf::new(entry);
+    assert_eq!(rt; fill(&mut leaf, entry), 8);
+    assert!(rt; leaf.entry_at(8).is_none());
     Ok(())
 }

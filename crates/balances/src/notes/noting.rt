@@ -12,14 +12,14 @@ use crate::plain::opening::{NO_DUE, NO_RESERVATION, no_account};
 use crate::receipt::{NO_RECORD, Receipt};
 use meaning::limits::{LEGS, RESERVATIONS};
 use meaning::{Record, Refusal};
-use ordered::{Due, Row};
+use ordered::{CopyRow, Due};
 
 // Not inlined, so that the places are filled where they stay, as those of accounts are.
 #[inline(never)]
-fn none_noted() -> Row<Leg, LEGS>
+fn none_noted() -> CopyRow<Leg, LEGS>
     ensures { items result ≡ [] }
 {
-    Row::new(Leg {
+    CopyRow::new(Leg {
         undo: Undo {
             debit: 0,
             debit_was: no_account(),
@@ -41,12 +41,12 @@ impl Notes {
     {
         Notes {
             legs: none_noted(),
-            queue: Row::new(NO_DUE),
+            queue: CopyRow::new(NO_DUE),
         }
     }
 
     // Begins anew: no legs so far, and the queue as it is.
-    pub(crate) fn begin(&mut self, queue: &Row<Due, RESERVATIONS>)
+    pub(crate) fn begin(&mut self, queue: &CopyRow<Due, RESERVATIONS>)
         ensures { noted self.new ≡ no_legs (items queue.now) }
     {
         self.legs.truncate(0);
@@ -102,7 +102,7 @@ impl Notes {
     }
 
     // The queue as it was.
-    pub(crate) fn queue(&self) -> &Row<Due, RESERVATIONS>
+    pub(crate) fn queue(&self) -> &CopyRow<Due, RESERVATIONS>
         ensures { items result.now ≡ (noted self.now).queue }
     {
         &self.queue

@@ -8,7 +8,7 @@ ghost use Rattle.balances.specs.Contents.{empty, no_row, opened_with};
 use super::Tables;
 use meaning::limits::ACCOUNTS;
 use meaning::{Account, Fate, Label, Limit, Reservation, Totals};
-use ordered::{Due, Line, Row};
+use ordered::{CopyRow, Due, Line};
 
 // What stands at no place.
 pub(crate) fn no_account() -> Account
@@ -47,10 +47,10 @@ const NO_LINE: Line = Line {
 // Tables are filled where they stay, and not copied, if a row whose blank is not all zeros is made by a function that is not
 // inlined.
 #[inline(never)]
-fn no_accounts() -> Row<Account, ACCOUNTS>
+fn no_accounts() -> CopyRow<Account, ACCOUNTS>
     ensures { items result ≡ [] }
 {
-    Row::new(no_account())
+    CopyRow::new(no_account())
 }
 
 impl Tables {
@@ -60,9 +60,9 @@ impl Tables {
     {
         Tables {
             accounts: no_accounts(),
-            reservations: Row::new(NO_RESERVATION),
-            queue: Row::new(NO_DUE),
-            lines: Row::new(NO_LINE),
+            reservations: CopyRow::new(NO_RESERVATION),
+            queue: CopyRow::new(NO_DUE),
+            lines: CopyRow::new(NO_LINE),
             highest: 0,
         }
     }

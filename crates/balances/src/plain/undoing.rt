@@ -9,7 +9,7 @@ ghost use Rattle.balances.specs.Undone.{undone, with_queue};
 use super::Tables;
 use crate::notes::Undo;
 use meaning::limits::RESERVATIONS;
-use ordered::{Due, Row};
+use ordered::{CopyRow, Due};
 
 impl Tables {
     // What a leg between two accounts, and on the reservation at a place, may write over. That is wide, so it is inlined.
@@ -43,14 +43,14 @@ impl Tables {
     }
 
     // The queue.
-    pub(crate) fn queue(&self) -> &Row<Due, RESERVATIONS>
+    pub(crate) fn queue(&self) -> &CopyRow<Due, RESERVATIONS>
         ensures { items result.now ≡ (shown self.now).queue }
     {
         &self.queue
     }
 
     // Another queue in its place.
-    pub(crate) fn put_queue(&mut self, queue: &Row<Due, RESERVATIONS>)
+    pub(crate) fn put_queue(&mut self, queue: &CopyRow<Due, RESERVATIONS>)
         ensures { shown self.new ≡ with_queue (items queue.now) (shown self.old) }
     {
         self.queue.copy_from(queue);

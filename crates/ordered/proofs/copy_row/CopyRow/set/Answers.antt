@@ -1,5 +1,5 @@
 use lib.Seq.{take-set-lt}
-use Rattle.ordered.proofs.row.Row.set.Goals as goal
+use Rattle.ordered.proofs.copy_row.CopyRow.set.Goals as goal
 
 pub returns-then-place-self : goal.returns-then-place-self
 returns-then-place-self g c =

@@ -1,7 +1,7 @@
 use Rattle.std.proofs.Common.{sym, refl, ◌∙◌, arith}
 use Rattle.std.proofs.lemmas.List.{get_or-take, get_or_default}
 use lib.Seq.{take-set-lt}
-use Rattle.ordered.proofs.row.Row.change.Goals as goal
+use Rattle.ordered.proofs.copy_row.CopyRow.change.Goals as goal
 
 pub returns-then-place-self-clause-there : goal.returns-then-place-self-clause-there
 returns-then-place-self-clause-there g c =
