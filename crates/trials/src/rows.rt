@@ -1,4 +1,5 @@
-// Rows of each of the two keys, put in out of order and taken out again, beside lists written by hand.
+// Rows of each of the two keys, put in out of order and taken out again, beside lists by hand; and
+// a row of numbers.
 ghost use Rattle.std.specs.Prelude.{◌≡◌};
 
 use ordered::{CopyRow, Due, Line, Row};
